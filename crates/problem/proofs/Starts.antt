@@ -1,0 +1,31 @@
+-- Where the rows of a pair begin. Assumes nothing.
+use mathlib.Core.Path.{_≡_, refl, sym, ap, _∙_}
+use mathlib.Core.Logic.{_⊎_, inl, inr}
+use mathlib.Core.List.{List}
+use Prim.Native.Nat.{ℕ, zero, suc, _+_, _*_, _≤_, _<_}
+use native.Mathlib.Nat.{eq-or-lt-of-le, le-of-suc-le-suc, le-refl}
+use native.Mathlib.Numerals.{add-one}
+use native.Mathlib.Omega.{arith}
+use lib.ListN.{length}
+use Rattle.problem.specs.Lowest.{sum}
+use Rattle.problem.specs.Tables.{size, listed, lower, start}
+
+module _ (sizes pairs : List ℕ) where
+  pub start-zero : start sizes pairs 0 ≡ 0
+  unfolding start sum
+  start-zero = refl
+
+  pub start-suc : (k : ℕ) → start sizes pairs (suc k) ≡ start sizes pairs k + size sizes (lower pairs k)
+  unfolding start sum
+  start-suc k = refl
+
+  pub start-next : (k : ℕ) → start sizes pairs (k + 1) ≡ start sizes pairs k + size sizes (lower pairs k)
+  start-next k = rw add-one (start-suc k)
+
+  pub start-mono : (j k : ℕ) → j ≤ k → start sizes pairs j ≤ start sizes pairs k
+  start-mono j zero h = let e : j ≡ 0 = omega arith in rw e (le-refl _)
+  start-mono j (suc k) h = by (eq-or-lt-of-le h) (start-mono j k)
+    where
+      by : (j ≡ suc k) ⊎ (j < suc k) → (j ≤ k → start sizes pairs j ≤ start sizes pairs k) → start sizes pairs j ≤ start sizes pairs (suc k)
+      by (inl e) rec = rw e (le-refl _)
+      by (inr l) rec = omega (arith, start-suc k, rec (le-of-suc-le-suc l))

@@ -1,0 +1,7 @@
+pub mod Lowest
+pub mod Tables
+pub mod Rising
+pub mod Sane
+pub mod Plans
+pub mod Ways
+pub mod Replies

@@ -1,0 +1,60 @@
+-- What each reply says on paper: the number and the values that documents 01 and 02 give it. (Document 01, 'Numbers given back'.) Assumes nothing.
+use mathlib.Core.Path.{_≡_, refl, sym, ap, ap₂, _∙_}
+use mathlib.Core.List.{List, [], _∷_}
+use Prim.Native.Nat.{ℕ, _+_}
+use lib.ListN.{getD}
+use Rattle.problem.specs.declared.Refusal.{Refusal}
+use Rattle.problem.specs.declared.Refusal.the-variants.{Method, Boats, Size, PairBytes, Pair, RowWords, RowBit, PlanMemory, WorkMemory, GivenLength, GivenSlot}
+use Rattle.problem.specs.declared.Allowance.{Allowance}
+use Rattle.problem.specs.declared.Allowance.the-variants.{Checks, Trials}
+use Rattle.problem.specs.declared.Answer.{Answer}
+use Rattle.problem.specs.declared.Answer.the-variants.{Solved, NoPlan, Undecided, Refused}
+
+-- ---- a refusal's number, and its place
+abbrev pub refusalNumber : Refusal → ℕ
+refusalNumber Method = 1
+refusalNumber Boats = 2
+refusalNumber (Size boat) = 3
+refusalNumber PairBytes = 4
+refusalNumber (Pair pair) = 5
+refusalNumber RowWords = 6
+refusalNumber (RowBit word) = 7
+refusalNumber PlanMemory = 8
+refusalNumber WorkMemory = 9
+refusalNumber GivenLength = 10
+refusalNumber (GivenSlot boat) = 11
+
+abbrev pub refusalPlace : Refusal → ℕ
+refusalPlace Method = 0
+refusalPlace Boats = 0
+refusalPlace (Size boat) = boat
+refusalPlace PairBytes = 0
+refusalPlace (Pair pair) = pair
+refusalPlace RowWords = 0
+refusalPlace (RowBit word) = word
+refusalPlace PlanMemory = 0
+refusalPlace WorkMemory = 0
+refusalPlace GivenLength = 0
+refusalPlace (GivenSlot boat) = boat
+
+-- ---- any reply: a number, and its values. A refusal counts from 100, so that its number is no other reply's
+pub record Told : Type 0 where
+  pub number : ℕ
+  pub values : List ℕ
+
+abbrev pub told : ℕ → List ℕ → Told
+told number values = record { number = number; values = values }
+
+abbrev pub refused : (number place : ℕ) → Told
+refused number place = told (100 + number) (place ∷ [])
+
+abbrev pub refusalTold : Refusal → Told
+refusalTold why = refused (refusalNumber why) (refusalPlace why)
+
+-- ---- the answer of a run
+abbrev pub answerTold : Answer → Told
+answerTold Solved = told 0 []
+answerTold NoPlan = told 1 []
+answerTold (Undecided Checks) = told 2 []
+answerTold (Undecided Trials) = told 3 []
+answerTold (Refused why) = refusalTold why

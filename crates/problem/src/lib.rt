@@ -1,0 +1,186 @@
+// The harbour's problem: its limits and methods, what an operation answers, and the looks at the tables that all other code makes.
+ghost use mathlib.Core.Path.{_≡_};
+ghost use mathlib.Core.Bool.{_||_};
+ghost use Prim.Native.Nat.{_%_};
+ghost use lib.Dec.{ltb, eqb};
+ghost use Rattle.problem.specs.Ways.{wayOf};
+ghost use Rattle.problem.specs.Replies.{refusalNumber, refusalPlace};
+
+mod looks;
+
+pub use looks::bit;
+pub use looks::higher_of;
+pub use looks::lower_of;
+pub use looks::place_of;
+pub use looks::size_of;
+pub use looks::start_of;
+
+// A problem by its numbers: boats, listed pairs and row words. It holds none of the tables.
+pub struct Problem {
+    pub boats: usize,
+    pub pairs: usize,
+    pub words: usize,
+}
+
+impl Problem {
+    pub const BOATS: usize = 64;
+
+    pub const SLOTS: usize = 64;
+
+    pub const PAIRS: usize = 2016;
+
+    pub const WORK: usize = 8192;
+
+    pub const BT: u64 = 1;
+
+    pub const CBJ: u64 = 2;
+
+    pub const BM: u64 = 3;
+
+    pub const FC: u64 = 4;
+
+    pub const FC_CBJ: u64 = 5;
+
+    pub fn of(boats: usize, pairs: usize, words: usize) -> Self
+        ensures { λ r. ⌜ r ≡ record { boats = boats; pairs = pairs; words = words } ⌝ }
+    {
+        Self {
+            boats,
+            pairs,
+            words,
+        }
+    }
+
+    // More boats than a problem may have.
+    pub fn too_many_boats(boats: usize) -> bool
+        ensures { λ r. ⌜ r ≡ ltb 64 boats ⌝ }
+    {
+        Self::BOATS < boats
+    }
+
+    // No size of a boat.
+    pub fn bad_size(size: usize) -> bool
+        ensures { λ r. ⌜ r ≡ (eqb size 0 || ltb 64 size) ⌝ }
+    {
+        size == 0 || Self::SLOTS < size
+    }
+
+    // No number of bytes that pairs take, two each.
+    pub fn bad_pair_bytes(bytes: usize) -> bool
+        ensures { λ r. ⌜ r ≡ (eqb (bytes % 2) 1 || ltb 4032 bytes) ⌝ }
+    {
+        bytes % 2 == 1 || 2 * Self::PAIRS < bytes
+    }
+
+    // Fewer working words than a run needs.
+    pub fn short_work(words: usize) -> bool
+        ensures { λ r. ⌜ r ≡ ltb words 8192 ⌝ }
+    {
+        words < Self::WORK
+    }
+
+    // The method that has a number: no number but the five has one.
+    pub fn way_of(method: u64) -> Known
+        ensures { λ r. ⌜ r ≡ wayOf method ⌝ }
+    {
+        if method == Self::BT {
+            return Known::Way(Way::Bt);
+        }
+        if method == Self::CBJ {
+            return Known::Way(Way::Cbj);
+        }
+        if method == Self::BM {
+            return Known::Way(Way::Bm);
+        }
+        if method == Self::FC {
+            return Known::Way(Way::Fc);
+        }
+        if method == Self::FC_CBJ {
+            return Known::Way(Way::FcCbj);
+        }
+        Known::Unknown
+    }
+}
+
+// The five methods.
+pub enum Way {
+    Bt,
+    Cbj,
+    Bm,
+    Fc,
+    FcCbj,
+}
+
+pub enum Known {
+    Way(Way),
+    Unknown,
+}
+
+// Why an operation refuses its input, with the place where the paper gives one other than 0.
+pub enum Refusal {
+    Method,
+    Boats,
+    Size(usize),
+    PairBytes,
+    Pair(usize),
+    RowWords,
+    RowBit(usize),
+    PlanMemory,
+    WorkMemory,
+    GivenLength,
+    GivenSlot(usize),
+}
+
+// The allowance that ran out.
+pub enum Allowance {
+    Checks,
+    Trials,
+}
+
+pub enum Answer {
+    Solved,
+    NoPlan,
+    Undecided(Allowance),
+    Refused(Refusal),
+}
+
+// The answer of a run beside both counts.
+pub struct Reply {
+    pub answer: Answer,
+    pub checks: u64,
+    pub trials: u64,
+}
+
+// A refusal as the paper has it.
+pub struct Numbered {
+    pub number: u64,
+    pub place: u64,
+}
+
+// The one place where a refusal becomes its number and place.
+pub fn number_of(why: Refusal) -> Numbered
+    ensures { λ r. ⌜ (r .number ≡ refusalNumber why) × (r .place ≡ refusalPlace why) ⌝ }
+{
+    match why {
+        Refusal::Method => at(1, 0),
+        Refusal::Boats => at(2, 0),
+        Refusal::Size(boat) => at(3, boat),
+        Refusal::PairBytes => at(4, 0),
+        Refusal::Pair(pair) => at(5, pair),
+        Refusal::RowWords => at(6, 0),
+        Refusal::RowBit(word) => at(7, word),
+        Refusal::PlanMemory => at(8, 0),
+        Refusal::WorkMemory => at(9, 0),
+        Refusal::GivenLength => at(10, 0),
+        Refusal::GivenSlot(boat) => at(11, boat),
+    }
+}
+
+fn at(number: u64, place: usize) -> Numbered
+    ensures { λ r. ⌜ (r .number ≡ number) × (r .place ≡ place) ⌝ }
+{
+    Numbered {
+        number,
+        place: place as u64,
+    }
+}

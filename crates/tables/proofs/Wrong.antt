@@ -1,0 +1,50 @@
+-- Programs that no edit of this code's shape gives, each with tables on which the promise refuses its reply. Assumes nothing.
+use mathlib.Core.Path.{_≡_, refl, ap}
+use mathlib.Core.List.{List, [], _∷_}
+use Prim.Native.Nat.{ℕ}
+use borrow.Author.Tests.{eqb-false}
+use lib.ListN.{getD}
+use Rattle.problem.specs.Lowest.{lowestFrom, lowest, sum}
+use Rattle.problem.specs.Tables.{Tables, start}
+use Rattle.problem.specs.Replies.{Told, told, refused}
+use Rattle.tables.specs.Tests.{firstOf}
+use Rattle.tables.specs.Examination.{badPair, badWord, pairOfWord, examination}
+use Rattle.tables.specs.Questions.{broken, brokenQuestion}
+
+abbrev number : Told → ℕ
+number r = r .number
+
+abbrev place : Told → ℕ
+place r = getD (r .values) 0 0
+
+-- no boat at all
+abbrev nothing : Tables
+nothing = record { sizes = []; pairs = []; rows = [] }
+
+-- boats 0 and 2 have no slot
+abbrev twoAtFault : Tables
+twoAtFault = record { sizes = 0 ∷ 1 ∷ 0 ∷ []; pairs = []; rows = [] }
+
+-- harbour case D: three boats of two slots, no two at the same
+abbrev caseD : Tables
+caseD = record { sizes = 2 ∷ 2 ∷ 2 ∷ []; pairs = 0 ∷ 1 ∷ 0 ∷ 2 ∷ 1 ∷ 2 ∷ []; rows = 2 ∷ 1 ∷ 2 ∷ 1 ∷ 2 ∷ 1 ∷ [] }
+
+-- one that always refuses, here by number 2
+pub always-refused : refused 2 0 ≡ examination nothing → ⊥
+unfolding examination firstOf lowest lowestFrom start sum
+always-refused e = eqb-false 102 0 refl (ap number e)
+
+-- one that refuses nothing
+pub never-refused : told 0 (3 ∷ 0 ∷ 0 ∷ []) ≡ examination twoAtFault → ⊥
+unfolding examination firstOf lowest lowestFrom start sum
+never-refused e = eqb-false 0 103 refl (ap number e)
+
+-- one that gives the last fault instead of the lowest
+pub last-refused : refused 3 2 ≡ examination twoAtFault → ⊥
+unfolding examination firstOf lowest lowestFrom start sum
+last-refused e = eqb-false 2 0 refl (ap place e)
+
+-- one that names the last broken pair instead of the lowest
+pub last-broken : told 1 (2 ∷ []) ≡ brokenQuestion caseD (1 ∷ 1 ∷ 1 ∷ []) → ⊥
+unfolding brokenQuestion broken firstOf lowest lowestFrom start sum badPair badWord pairOfWord
+last-broken e = eqb-false 2 0 refl (ap place e)

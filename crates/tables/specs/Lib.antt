@@ -1,0 +1,6 @@
+pub mod Tests
+pub mod Applies
+pub mod Examination
+pub mod Framed
+pub mod Questions
+pub mod Replies

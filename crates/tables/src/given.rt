@@ -1,0 +1,68 @@
+// Numbers 10 and 11, and the lowest broken pair: a given plan, after the examination.
+ghost use mathlib.Core.Path.{_≡_};
+ghost use mathlib.Core.Bool.{not};
+ghost use Prim.Native.Nat.{ℕ, _<_};
+ghost use lib.ListN.{length};
+ghost use Rattle.problem.specs.Lowest.{lowest};
+ghost use Rattle.problem.specs.Sane.{Sane};
+ghost use Rattle.problem.specs.Plans.{Plan};
+ghost use Rattle.tables.specs.Questions.{badSlot, broken, brokenQuestion};
+ghost use Rattle.tables.specs.Replies.{tables, brokenTold};
+use crate::Broken;
+use problem::Refusal;
+
+// The lowest boat whose slot is not below its size; the number of boats where there is none.
+fn first_bad_slot(sizes: &[u8], plan: &[u8]) -> usize
+    requires { ⌜ length (now plan) ≡ length (now sizes) ⌝ }
+    ensures { λ r. ⌜ r ≡ lowest (length (now (sizes .entry))) (badSlot (now (sizes .entry)) (now (plan .entry))) ⌝ }
+{
+    let mut i: usize = 0;
+    while i < sizes.len() {
+        if sizes[i] <= plan[i] {
+            return i;
+        }
+        i += 1;
+    }
+    i
+}
+
+// The lowest listed pair that a plan breaks; the number of pairs where it breaks none.
+fn lowest_broken(sizes: &[u8], pairs: &[u8], rows: &[u64], plan: &[u8]) -> usize
+    requires { ⌜ Sane (tables (now sizes) (now pairs) (now rows)) ⌝ }
+    requires { ⌜ Plan (tables (now sizes) (now pairs) (now rows)) (now plan) ⌝ }
+    ensures { λ r. ⌜ r ≡ broken (tables (now (sizes .entry)) (now (pairs .entry)) (now (rows .entry))) (now (plan .entry)) ⌝ }
+{
+    let count = pairs.len() / 2;
+    let mut start: usize = 0;
+    let mut k: usize = 0;
+    while k < count {
+        let low = problem::lower_of(pairs, k);
+        let row = rows[start + problem::size_of(plan, low)];
+        if !problem::bit(row, problem::size_of(plan, problem::higher_of(pairs, k))) {
+            return k;
+        }
+        start += problem::size_of(sizes, low);
+        k += 1;
+    }
+    count
+}
+
+// What the examination leaves of the broken-pair question.
+pub fn judge(sizes: &[u8], pairs: &[u8], rows: &[u64], plan: &[u8]) -> Broken
+    requires { ⌜ Sane (tables (now sizes) (now pairs) (now rows)) ⌝ }
+    ensures { λ r. ⌜ brokenTold r ≡ brokenQuestion (tables (now (sizes .entry)) (now (pairs .entry)) (now (rows .entry))) (now (plan .entry)) ⌝ }
+{
+    if plan.len() != sizes.len() {
+        return Broken::Refused(Refusal::GivenLength);
+    }
+    let boat = first_bad_slot(sizes, plan);
+    if boat < sizes.len() {
+        return Broken::Refused(Refusal::GivenSlot(boat));
+    }
+    let pair = lowest_broken(sizes, pairs, rows, plan);
+    if pair < pairs.len() / 2 {
+        Broken::Pair(pair)
+    } else {
+        Broken::Nowhere
+    }
+}

@@ -1,0 +1,23 @@
+//! An independent second program for the harbour's problem, written from docs/01-scope.md alone.
+//! It is meant to be obviously right, not fast: visits are nested calls, and nothing is ever undone.
+#![forbid(unsafe_code)]
+
+pub mod allowances;
+pub mod answer;
+pub mod brute;
+pub mod cases;
+pub mod counter;
+pub mod examine;
+pub mod generate;
+pub mod harbour;
+pub mod methods;
+pub mod plans;
+pub mod problem;
+pub mod random;
+pub mod rows;
+pub mod run;
+pub mod selftest;
+pub mod shapes;
+pub mod spoil;
+pub mod tables;
+pub mod vectors;

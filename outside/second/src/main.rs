@@ -1,0 +1,108 @@
+//! second run                    answers problems from standard input, one reply line for each
+//! second gen KIND SEED COUNT    writes COUNT problem lines (kinds: tiny small phase sparse dense
+//!                               wide full bad)
+//! second selftest SEED COUNT    compares with brute force and with itself on COUNT tables
+//! second cases                  prints the document's cases and the further vectors
+//!
+//! A problem is one line of eight fields, separated by spaces; a lone '|' between fields is written
+//! for the eye and skipped when read:
+//!
+//!   method checks_allowed trials_allowed plan_len work_len | sizes | pairs | rows
+//!
+//! The first five are decimal. Sizes and pairs are bytes of two hex digits each, without gaps. Rows
+//! are hex words separated by commas. '-' stands for none of them. Blank lines are skipped. Harbour
+//! case C under BT:
+//!
+//!   1 18446744073709551615 18446744073709551615 2 8192 | 0202 | 0001 | 2,1
+//!
+//! A reply is one line of five fields, separated by spaces:
+//!
+//!   answer place checks trials plan
+//!
+//! Answer: 0 solved, 1 no plan, 2 undecided by checks, 3 undecided by trials, 100 + number refused.
+//! Place is 0 unless refused. Plan is n hex bytes if solved, else '-'; '-' too for n = 0. Case C:
+//!
+//!   0 0 2 3 0001
+
+use std::io::{self, BufRead, BufWriter, Write};
+use std::process::ExitCode;
+
+use second::cases::all_lines;
+use second::generate::generate;
+use second::problem::{reply_line, Problem};
+use second::selftest::selftest;
+
+const USAGE: &str = "second run | gen KIND SEED COUNT | selftest SEED COUNT | cases";
+
+fn main() -> ExitCode {
+    let words: Vec<String> = std::env::args().skip(1).collect();
+    let words: Vec<&str> = words.iter().map(String::as_str).collect();
+    let done = match words[..] {
+        ["run"] => run_lines(),
+        ["gen", kind, seed, count] => with_numbers(seed, count, |seed, count| gen(kind, seed, count)),
+        ["selftest", seed, count] => with_numbers(seed, count, test_itself),
+        ["cases"] => print_cases(),
+        _ => Err(io::Error::other(USAGE)),
+    };
+    match done {
+        Ok(true) => ExitCode::SUCCESS,
+        Ok(false) => ExitCode::FAILURE,
+        Err(error) => {
+            eprintln!("second: {error}");
+            ExitCode::from(2)
+        }
+    }
+}
+
+fn with_numbers(seed: &str, count: &str, act: impl Fn(u64, u64) -> io::Result<bool>) -> io::Result<bool> {
+    match (seed.parse(), count.parse()) {
+        (Ok(seed), Ok(count)) => act(seed, count),
+        _ => Err(io::Error::other(USAGE)),
+    }
+}
+
+fn run_lines() -> io::Result<bool> {
+    let mut out = BufWriter::new(io::stdout().lock());
+    for (number, line) in (1..).zip(io::stdin().lock().lines()) {
+        let line = line?;
+        if line.trim().is_empty() {
+            continue;
+        }
+        let wrong = |what| io::Error::other(format!("line {number}: {what}"));
+        let problem = Problem::read(&line).map_err(wrong)?;
+        writeln!(out, "{}", reply_line(&problem.reply()))?;
+    }
+    out.flush()?;
+    Ok(true)
+}
+
+fn gen(kind: &str, seed: u64, count: u64) -> io::Result<bool> {
+    let mut out = BufWriter::new(io::stdout().lock());
+    if !generate(kind, seed, count, |problem| writeln!(out, "{}", problem.line()))? {
+        return Err(io::Error::other(format!("no such kind: {kind}")));
+    }
+    out.flush()?;
+    Ok(true)
+}
+
+fn test_itself(seed: u64, count: u64) -> io::Result<bool> {
+    let tally = selftest(seed, count);
+    for example in &tally.examples {
+        println!("{example}");
+    }
+    println!(
+        "tables {} (with a plan {}), comparisons {}, differed {}",
+        tally.tables, tally.with_plan, tally.comparisons, tally.differed
+    );
+    Ok(tally.differed == 0)
+}
+
+fn print_cases() -> io::Result<bool> {
+    let lines = all_lines();
+    for line in &lines {
+        println!("{}", line.text());
+    }
+    let differed = lines.iter().filter(|line| !line.agrees()).count();
+    println!("lines {}, differed {differed}", lines.len());
+    Ok(differed == 0)
+}
