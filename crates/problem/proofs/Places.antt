@@ -1,19 +1,18 @@
 -- The place of a pair among the listed ones. Assumes nothing.
-use mathlib.Core.Path.{_≡_, refl, sym, ap, _∙_}
-use mathlib.Core.Logic.{_⊎_, inl, inr, ⊎-elim}
-use mathlib.Core.Bool.{Bool, true, false, not, _&&_, _||_}
+use mathlib.Core.Path.{_≡_, refl, sym, _∙_}
+use mathlib.Core.Logic.{⊎-elim}
+use mathlib.Core.Bool.{Bool, true, false, _&&_}
 use mathlib.Core.List.{List}
-use Prim.Native.Nat.{ℕ, zero, suc, _+_, _≤_, _<_}
+use mathlib.Mathlib.Data.Bool.Basic.{eq-false-of-not-eq-true}
+use Prim.Native.Nat.{ℕ, _≤_, _<_}
 use native.Mathlib.Omega.{arith}
-use borrow.Author.Tests.{ltb-true, ltb-false, lt-ltb, le-ltb, eqb-true, eq-eqb, ne-eqb}
-use lib.Dec.{T, ltb, eqb}
-use lib.ListN.{length, getD}
-use Rattle.problem.specs.Lowest.{lowest}
-use Rattle.problem.specs.Tables.{Tables, boats, size, listed, lower, higher, isPair, place, isListed, allows, allowed}
-use Rattle.problem.specs.Rising.{Rising, Precedes}
+use borrow.Author.Tests.{ltb-true, lt-ltb, le-ltb, eqb-true, eq-eqb}
+use lib.Dec.{T}
+use Rattle.problem.specs.Tables.{Tables, boats, listed, lower, higher, isPair, place, isListed, allows, allowed}
+use Rattle.problem.specs.Rising.{Rising}
 use Rattle.problem.specs.Sane.{Sane}
-use Rattle.problem.specs.Plans.{slot, keeps, Plan, Lawful}
-use Rattle.problem.proofs.Lowest.{lowest-here, lowest-none, lowest-le, lowest-passes, not-both}
+use Rattle.problem.specs.Plans.{slot, keeps}
+use Rattle.problem.proofs.Lowest.{lowest-here, lowest-le, lowest-passes, not-both}
 
 pub both-true : (a b : Bool) → (a && b) ≡ true → (a ≡ true) × (b ≡ true)
 both-true true b e = (refl, e)
@@ -34,11 +33,7 @@ pub pair-here : (pairs : List ℕ) (h i k : ℕ) → lower pairs k ≡ h → hig
 pair-here pairs h i k a b = true-both _ _ (eq-eqb _ _ a) (eq-eqb _ _ b)
 
 pub pair-elsewhere : (pairs : List ℕ) (h i k : ℕ) → (lower pairs k ≡ h → higher pairs k ≡ i → ⊥) → isPair pairs h i k ≡ false
-pair-elsewhere pairs h i k n = by (isPair pairs h i k) refl
-  where
-    by : (b : Bool) → isPair pairs h i k ≡ b → b ≡ false
-    by false e = refl
-    by true e = let q = both-true _ _ e in absurd (n (eqb-true _ _ (q .0)) (eqb-true _ _ (q .1)))
+pair-elsewhere pairs h i k n = eq-false-of-not-eq-true (λ e. let q = both-true _ _ e in n (eqb-true _ _ (q .0)) (eqb-true _ _ (q .1)))
 
 module _ (pairs : List ℕ) where
   pub place-le : (h i : ℕ) → place pairs h i ≤ listed pairs

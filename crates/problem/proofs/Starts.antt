@@ -1,12 +1,11 @@
 -- Where the rows of a pair begin. Assumes nothing.
-use mathlib.Core.Path.{_≡_, refl, sym, ap, _∙_}
+use mathlib.Core.Path.{_≡_, refl}
 use mathlib.Core.Logic.{_⊎_, inl, inr}
 use mathlib.Core.List.{List}
-use Prim.Native.Nat.{ℕ, zero, suc, _+_, _*_, _≤_, _<_}
+use Prim.Native.Nat.{ℕ, zero, suc, _+_, _≤_, _<_}
 use native.Mathlib.Nat.{eq-or-lt-of-le, le-of-suc-le-suc, le-refl}
 use native.Mathlib.Numerals.{add-one}
 use native.Mathlib.Omega.{arith}
-use lib.ListN.{length}
 use Rattle.problem.specs.Lowest.{sum}
 use Rattle.problem.specs.Tables.{size, listed, lower, start}
 
@@ -29,3 +28,7 @@ module _ (sizes pairs : List ℕ) where
       by : (j ≡ suc k) ⊎ (j < suc k) → (j ≤ k → start sizes pairs j ≤ start sizes pairs k) → start sizes pairs j ≤ start sizes pairs (suc k)
       by (inl e) rec = rw e (le-refl _)
       by (inr l) rec = omega (arith, start-suc k, rec (le-of-suc-le-suc l))
+
+  -- the rows of a listed pair end where those of the last one do, or before
+  pub start-within : (k : ℕ) → k < listed pairs → start sizes pairs k + size sizes (lower pairs k) ≤ start sizes pairs (listed pairs)
+  start-within k l = omega (arith, start-suc k, start-mono (suc k) (listed pairs) l)

@@ -1,8 +1,6 @@
 -- No number but the five is a method. Assumes nothing.
 use mathlib.Core.Path.{_≡_, refl, sym, ap}
-use mathlib.Core.List.{List, [], _∷_}
 use Prim.Native.Nat.{ℕ, zero, suc}
-use Rattle.problem.specs.declared.Known.{Known}
 use Rattle.problem.specs.declared.Known.the-variants.{Unknown}
 use Rattle.problem.specs.Ways.{wayOf}
 

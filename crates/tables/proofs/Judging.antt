@@ -22,11 +22,11 @@ use Rattle.tables.proofs.Laws.{planTests, none-fine, gives-first, fine-
 use Rattle.tables.proofs.Fine.{sane-fine}
 
 -- ---- tests after others
-after-none : (pre post : List Test) (o : Told) → NoneApplies pre → firstOf (pre ++ post) o ≡ firstOf post o
+pub after-none : (pre post : List Test) (o : Told) → NoneApplies pre → firstOf (pre ++ post) o ≡ firstOf post o
 after-none pre post o none = refl
 after-none pre post o (nor {test} {tests} f n) = fails-passes test (tests ++ post) o f ∙ after-none tests post o n
 
-gives-before : (pre post : List Test) (w : Told) → Gives pre w → Gives (pre ++ post) w
+pub gives-before : (pre post : List Test) (w : Told) → Gives pre w → Gives (pre ++ post) w
 gives-before pre post w (here {test} {tests} k l p f) = here k l p f
 gives-before pre post w (later {test} {tests} f g) = later f (gives-before tests post w g)
 

@@ -7,7 +7,7 @@ use lib.ListN.{length, getD}
 use Rattle.problem.specs.Tables.{Tables, boats, size, listed, lower, higher, start, bit}
 use Rattle.problem.specs.Sane.{Sane}
 use Rattle.problem.specs.Plans.{slot, keeps, Plan}
-use Rattle.problem.proofs.Starts.{start-next, start-mono}
+use Rattle.problem.proofs.Starts.{start-next, start-within}
 
 -- the pair k at hand names the boats low and high, to which the plan gives the slots a and b, and its rows begin at `at`
 module _ {t : Tables} {plan : List ℕ} (sane : Sane t) (isPlan : Plan t plan) {k : ℕ} (l : k < listed (t .pairs)) where
@@ -26,8 +26,7 @@ module _ {t : Tables} {plan : List ℕ} (sane : Sane t) (isPlan : Plan t plan) {
     next-row f = omega (arith, start-next (t .sizes) (t .pairs) k, ap (size (t .sizes)) e)
 
     pub next-inside : {count : ℕ} → count ≡ size (t .sizes) low → at + count ≤ length (t .rows)
-    next-inside f =
-        omega (arith, next-row f, start-mono (t .sizes) (t .pairs) (k + 1) (listed (t .pairs)) (omega arith), sane .rowWords)
+    next-inside f = omega (arith, ap (size (t .sizes)) e, start-within (t .sizes) (t .pairs) k l, sane .rowWords)
 
     module _ {a : ℕ} (f : a ≡ slot plan low) where
       pub row-inside : at + a < length (t .rows)

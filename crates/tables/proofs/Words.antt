@@ -12,7 +12,7 @@ use lib.Pow.{pow-pos}
 use Rattle.problem.specs.Lowest.{lowestFrom, lowest}
 use Rattle.problem.specs.Tables.{Tables, size, listed, lower, higher, start, row}
 use Rattle.problem.proofs.Lowest.{Lowest, lowestFrom-is, lowest-here, lowest-none, lowest-fails, lowest-passes, lowest-before}
-use Rattle.problem.proofs.Starts.{start-zero, start-suc, start-mono}
+use Rattle.problem.proofs.Starts.{start-zero, start-suc, start-mono, start-within}
 use Rattle.tables.specs.Examination.{pairOfWord, badWord}
 
 -- a word shifted down by a size is not 0 exactly when the word has a bit at or above it
@@ -58,7 +58,7 @@ module _ {t : Tables} {k word : ℕ} (so : Walked t k word) (whole : length (t .
     walk-next = omega (arith, start-suc (t .sizes) (t .pairs) k, so .first)
 
     pub walk-inside : word + count ≤ length (t .rows)
-    walk-inside = omega (arith, walk-next, start-mono (t .sizes) (t .pairs) (suc k) (listed (t .pairs)) l)
+    walk-inside = omega (arith, so .first, start-within (t .sizes) (t .pairs) k l)
 
     -- its higher boat has so many slots, and of its words the lowest that is wide, or their end, is here
     module _ {bits wide : ℕ} (bt : bits ≡ size (t .sizes) (higher (t .pairs) k))
@@ -139,5 +139,5 @@ module _ (t : Tables) (whole : length (t .rows) ≡ start (t .sizes) (t .pairs) 
   good-rows good k a l h =
       let w = start (t .sizes) (t .pairs) k + a in
       let upto : w < start (t .sizes) (t .pairs) (suc k) = omega (arith, start-suc (t .sizes) (t .pairs) k) in
-      let inside : w < length (t .rows) = omega (arith, start-mono (t .sizes) (t .pairs) (suc k) (listed (t .pairs)) l) in
+      let inside : w < length (t .rows) = omega (arith, start-within (t .sizes) (t .pairs) k l) in
       leb-false _ _ (sym (word-of-pair t k l w (omega arith) upto) ∙ good w inside)

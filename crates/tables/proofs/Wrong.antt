@@ -1,6 +1,6 @@
 -- Programs that no edit of this code's shape gives, each with tables on which the promise refuses its reply. Assumes nothing.
 use mathlib.Core.Path.{_≡_, refl, ap}
-use mathlib.Core.List.{List, [], _∷_}
+use mathlib.Core.List.{[], _∷_}
 use Prim.Native.Nat.{ℕ}
 use borrow.Author.Tests.{eqb-false}
 use lib.ListN.{getD}

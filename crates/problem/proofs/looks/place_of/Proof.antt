@@ -11,10 +11,6 @@ use Rattle.problem.proofs.Lowest.{lowest-here, lowest-none}
 use Rattle.problem.proofs.Places.{pair-here, pair-elsewhere}
 use Rattle.problem.proofs.looks.place_of.Statement.{statement}
 use Rattle.problem.proofs.looks.place_of.Tie as tie
-use Rattle.problem.proofs.looks.place_of.Reads as reads
-use Rattle.problem.proofs.looks.place_of.Lts as lts
-use Rattle.problem.proofs.looks.higher_of.Reads as higher-of-reads
-use Rattle.problem.proofs.looks.lower_of.Reads as lower-of-reads
 
 abbrev Inv-loop : tie.InvT-loop
 Inv-loop pairs low high count k₀ k = (k ≤ listed pairs) × ((j : ℕ) → j < k → isPair pairs low high j ≡ false)

@@ -1,16 +1,12 @@
 -- The words counted are those of the pairs passed. Assumes nothing.
 use mathlib.Core.Path.{_≡_, sym, ap, _∙_}
-use Prim.Native.Nat.{ℕ, _-_, _*_, _≤_, _<_}
+use Prim.Native.Nat.{_-_, _*_, _≤_}
 use borrow.Author.Needs.{needs}
 use native.Mathlib.Omega.{arith}
 use Rattle.problem.specs.Tables.{size, lower, start}
 use Rattle.problem.proofs.Starts.{start-zero, start-next}
 use Rattle.problem.proofs.looks.start_of.Statement.{statement}
 use Rattle.problem.proofs.looks.start_of.Tie as tie
-use Rattle.problem.proofs.looks.start_of.Reads as reads
-use Rattle.problem.proofs.looks.start_of.Lts as lts
-use Rattle.problem.proofs.looks.lower_of.Reads as lower-of-reads
-use Rattle.problem.proofs.looks.size_of.Reads as size-of-reads
 
 abbrev Inv-loop : tie.InvT-loop
 Inv-loop sizes pairs pair words₀ k₀ words k = (k ≤ pair) × (words ≤ 255 * k) × (words ≡ start sizes pairs k)

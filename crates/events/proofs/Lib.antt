@@ -1,0 +1,5 @@
+pub mod Counting
+pub mod Cutting
+pub mod Laws
+pub mod Metered
+pub mod Leading

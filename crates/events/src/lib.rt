@@ -1,0 +1,91 @@
+// What a search does that is counted, and the counts beside their allowances.
+ghost use mathlib.Core.Path.{_≡_};
+ghost use Prim.Native.Nat.{_≤_};
+ghost use Rattle.events.specs.Counts.{fresh, trialCounted, checkCounted, checksCounted};
+
+// The checks and trials made, each beside its allowance. It goes by value.
+pub struct Counts {
+    pub checks: u64,
+    pub trials: u64,
+    pub most_checks: u64,
+    pub most_trials: u64,
+}
+
+// The counts after what was due, or as they are where an allowance does not cover it.
+pub enum Counted {
+    Within(Counts),
+    Out(Counts),
+}
+
+impl Counts {
+    pub fn new(most_checks: u64, most_trials: u64) -> Self
+        ensures { λ r. ⌜ r ≡ fresh «most_checks» «most_trials» ⌝ }
+    {
+        Self {
+            checks: 0,
+            trials: 0,
+            most_checks,
+            most_trials,
+        }
+    }
+
+    // A trial is due.
+    pub fn trial(self) -> Counted
+        ensures { λ r. ⌜ r ≡ trialCounted self ⌝ }
+    {
+        let made = self.trials;
+        let most = self.most_trials;
+        if made < most {
+            Counted::Within(Counts {
+                checks: self.checks,
+                trials: made + 1,
+                most_checks: self.most_checks,
+                most_trials: most,
+            })
+        } else {
+            Counted::Out(self)
+        }
+    }
+
+    // A check is due.
+    pub fn check(self) -> Counted
+        ensures { λ r. ⌜ r ≡ checkCounted self ⌝ }
+    {
+        let made = self.checks;
+        let most = self.most_checks;
+        if made < most {
+            Counted::Within(Counts {
+                checks: made + 1,
+                trials: self.trials,
+                most_checks: most,
+                most_trials: self.most_trials,
+            })
+        } else {
+            Counted::Out(self)
+        }
+    }
+
+    // So many checks are due, one after the other.
+    pub fn check_each(self, due: u64) -> Counted
+        requires { ⌜ self .checks ≤ self .«most_checks» ⌝ }
+        ensures { λ r. ⌜ r ≡ checksCounted self due ⌝ }
+    {
+        let made = self.checks;
+        let most = self.most_checks;
+        if due <= most - made {
+            Counted::Within(Counts {
+                checks: made + due,
+                trials: self.trials,
+                most_checks: most,
+                most_trials: self.most_trials,
+            })
+        } else {
+            Counted::Out(Counts {
+                checks: most,
+                trials: self.trials,
+                most_checks: most,
+                most_trials: self.most_trials,
+            })
+        }
+    }
+}

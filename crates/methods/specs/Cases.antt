@@ -1,0 +1,125 @@
+-- The thirteen harbour cases that are proved, as one table; and a second table, of cases that tell apart definitions which the harbour cases do not.
+-- (Document 01, 'Harbour cases' and 'What the promises hold down'.) Both are computed from the definitions. Assumes nothing.
+use mathlib.Core.Path.{_≡_, refl}
+use mathlib.Core.List.{List, [], _∷_, map}
+use Prim.Native.Nat.{ℕ, _-_, _^_}
+use Rattle.problem.specs.Lowest.{lowestFrom, lowest, sum}
+use Rattle.problem.specs.Tables.{Tables, place, isListed, start, allowed}
+use Rattle.problem.specs.declared.Way.{Way}
+use Rattle.problem.specs.declared.Way.the-variants.{Bt, Cbj, Bm, Fc, FcCbj}
+use Rattle.problem.specs.declared.Allowance.the-variants.{Checks, Trials}
+use Rattle.events.specs.Events.{Search, solved, noPlan}
+use Rattle.events.specs.Allowances.{Decision, decided, undecided, Outcome, outcome, cutFrom, cut}
+use Rattle.methods.specs.Choices.{choices, slotOf, mayStand, shownEvent, shownPlan, shownEnding, shown}
+use Rattle.methods.specs.Machine.{tried, backTo, leave, atChoice, atBoat, atSea, step, onward, run, counts, span, ahead, searchFrom, search}
+use Rattle.methods.specs.Moves.{some?}
+use Rattle.methods.specs.BT.{lookBack, lookingBack, bt}
+use Rattle.methods.specs.CBJ.{deepest, cbj}
+use Rattle.methods.specs.BM.{bm}
+use Rattle.methods.specs.FC.{isLive, strikers, slotChecks, choiceStays, sweep, struck, putBackFrom, lookingAhead, fc}
+use Rattle.methods.specs.FCCBJ.{fccbj}
+use Rattle.methods.specs.Methods.{searchBy}
+
+-- a method on tables with allowances, and what comes of it
+pub record Case : Type 0 where
+  pub method : Way
+  pub tables : Tables
+  pub checks : ℕ
+  pub trials : ℕ
+  pub expected : Outcome
+
+abbrev pub ample : ℕ
+ample = 2 ^ 64 - 1
+
+abbrev pub case : Way → Tables → (checks trials : ℕ) → Decision → (made tried : ℕ) → Case
+case m t ca ta d c n = record { method = m; tables = t; checks = ca; trials = ta; expected = outcome d c n }
+
+abbrev pub tablesOf : (sizes pairs rows : List ℕ) → Tables
+tablesOf sizes pairs rows = record { sizes = sizes; pairs = pairs; rows = rows }
+
+-- what the definitions say. (To unfold this is to unfold all that its line names)
+unfoldable pub comesOf : Case → Outcome
+unfolding searchBy shown shownEvent shownPlan shownEnding slotOf choices mayStand cut cutFrom search searchFrom run onward step atSea atBoat atChoice tried leave backTo counts span ahead bt lookingBack lookBack cbj deepest bm fc lookingAhead isLive strikers slotChecks choiceStays sweep struck putBackFrom some? fccbj lowestFrom lowest sum place isListed start allowed
+comesOf k = cut (k .checks) (k .trials) (searchBy (k .method) (k .tables))
+
+-- ---- the thirteen
+abbrev pub A : Tables
+A = tablesOf [] [] []
+
+abbrev pub D : Tables
+D = tablesOf (2 ∷ 2 ∷ 2 ∷ []) (0 ∷ 1 ∷ 0 ∷ 2 ∷ 1 ∷ 2 ∷ []) (2 ∷ 1 ∷ 2 ∷ 1 ∷ 2 ∷ 1 ∷ [])
+
+abbrev pub E : Tables
+E = tablesOf (2 ∷ 2 ∷ 1 ∷ []) (0 ∷ 2 ∷ []) (0 ∷ 1 ∷ [])
+
+abbrev pub planOfE : Decision
+planOfE = decided (solved (1 ∷ 0 ∷ 0 ∷ []))
+
+unfoldable pub harbourCases : List Case
+harbourCases =
+    case Bt A ample ample (decided (solved [])) 0 0
+    ∷ case Bt D ample ample (decided noPlan) 10 10
+    ∷ case Cbj D ample ample (decided noPlan) 10 10
+    ∷ case Bm D ample ample (decided noPlan) 10 10
+    ∷ case Fc D ample ample (decided noPlan) 10 4
+    ∷ case FcCbj D ample ample (decided noPlan) 10 4
+    ∷ case Bt E ample ample planOfE 3 8
+    ∷ case Cbj E ample ample planOfE 2 6
+    ∷ case Bm E ample ample planOfE 2 8
+    ∷ case Fc E ample ample planOfE 2 4
+    ∷ case FcCbj E ample ample planOfE 2 4
+    ∷ case Bt D 9 ample (undecided Checks) 9 10
+    ∷ case Bt D ample 9 (undecided Trials) 9 9
+    ∷ []
+
+pub thirteen : map comesOf harbourCases ≡ map (λ k. k .expected) harbourCases
+unfolding comesOf harbourCases
+thirteen = refl
+
+-- ---- what the harbour cases do not see
+-- BM with marks of listed boats only says 'no plan' here
+abbrev pub V2 : Tables
+V2 = tablesOf (1 ∷ 2 ∷ 1 ∷ 1 ∷ []) (0 ∷ 2 ∷ 0 ∷ 3 ∷ 1 ∷ 3 ∷ []) (1 ∷ 1 ∷ 0 ∷ 1 ∷ [])
+
+-- FC that goes on after an emptied boat makes 2 checks here
+abbrev pub V3 : Tables
+V3 = tablesOf (1 ∷ 1 ∷ 1 ∷ []) (0 ∷ 1 ∷ 0 ∷ 2 ∷ []) (0 ∷ 0 ∷ [])
+
+-- FC-CBJ that blames the boats listed with j, whether they struck or not, makes 4 checks and 4 trials here
+abbrev pub V4 : Tables
+V4 = tablesOf (2 ∷ 1 ∷ 1 ∷ []) (0 ∷ 1 ∷ 1 ∷ 2 ∷ []) (1 ∷ 1 ∷ 0 ∷ [])
+
+-- CBJ and FC-CBJ that leave the sets of h + 1 to i as they were make other counts here
+abbrev pub V10 : Tables
+V10 = tablesOf (3 ∷ 1 ∷ 1 ∷ []) (0 ∷ 1 ∷ 1 ∷ 2 ∷ []) (0 ∷ 1 ∷ 0 ∷ 0 ∷ [])
+
+abbrev pub planOfV2 : Decision
+planOfV2 = decided (solved (0 ∷ 1 ∷ 0 ∷ 0 ∷ []))
+
+unfoldable pub furtherCases : List Case
+furtherCases =
+    case Bt V2 ample ample planOfV2 6 7
+    ∷ case Cbj V2 ample ample planOfV2 6 7
+    ∷ case Bm V2 ample ample planOfV2 4 7
+    ∷ case Fc V2 ample ample planOfV2 4 5
+    ∷ case FcCbj V2 ample ample planOfV2 4 5
+    ∷ case Bt V3 ample ample (decided noPlan) 1 2
+    ∷ case Cbj V3 ample ample (decided noPlan) 1 2
+    ∷ case Bm V3 ample ample (decided noPlan) 1 2
+    ∷ case Fc V3 ample ample (decided noPlan) 1 1
+    ∷ case FcCbj V3 ample ample (decided noPlan) 1 1
+    ∷ case Bt V4 ample ample (decided noPlan) 4 6
+    ∷ case Cbj V4 ample ample (decided noPlan) 2 3
+    ∷ case Bm V4 ample ample (decided noPlan) 4 6
+    ∷ case Fc V4 ample ample (decided noPlan) 4 4
+    ∷ case FcCbj V4 ample ample (decided noPlan) 2 2
+    ∷ case Bt V10 ample ample (decided noPlan) 4 7
+    ∷ case Cbj V10 ample ample (decided noPlan) 3 5
+    ∷ case Bm V10 ample ample (decided noPlan) 4 7
+    ∷ case Fc V10 ample ample (decided noPlan) 4 4
+    ∷ case FcCbj V10 ample ample (decided noPlan) 3 3
+    ∷ []
+
+pub further : map comesOf furtherCases ≡ map (λ k. k .expected) furtherCases
+unfolding comesOf furtherCases
+further = refl

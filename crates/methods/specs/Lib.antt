@@ -1,0 +1,11 @@
+pub mod Choices
+pub mod Machine
+pub mod Moves
+pub mod BT
+pub mod CBJ
+pub mod BM
+pub mod FC
+pub mod FCCBJ
+pub mod Methods
+pub mod Promises
+pub mod Cases
