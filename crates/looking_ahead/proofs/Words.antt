@@ -1,0 +1,45 @@
+-- Words by their bits. Assumes nothing.
+use mathlib.Core.Path.{_≡_, refl, sym, ap, _∙_}
+use mathlib.Core.Bool.{Bool, _&&_, and-assoc, and-comm}
+use Prim.Native.Nat.{ℕ, zero, suc, _-_, _/_, _%_, _^_, _<_}
+use native.Mathlib.Omega.{arith}
+use native.Mathlib.Nat.{mod-lt, zero-lt-suc, pow-suc}
+use lib.Dec.{ltb, eqb, leb·suc-suc}
+use lib.Pow.{pow-pos, shr-shr}
+use borrow.Author.Tests.{eq-eqb, lt-ltb, le-ltb}
+use Rattle.problem.specs.Tables.{bit}
+use Rattle.problem.proofs.Lowest.{not-both}
+use Rattle.words.proofs.Bits.{digits, bit-zero}
+
+pub and-swap : (x y z : Bool) → ((x && y) && z) ≡ ((x && z) && y)
+and-swap x y z = and-assoc x y z ∙ ap (λ (b : Bool). x && b) (and-comm y z) ∙ sym (and-assoc x z y)
+
+-- the lowest bit, and the rest
+odd-same : (x y : ℕ) → eqb (x % 2) 1 ≡ eqb (y % 2) 1 → x % 2 ≡ y % 2
+odd-same x y =
+    digits (λ m n. eqb m 1 ≡ eqb n 1 → m ≡ n) (λ e. refl) (λ e. absurd (not-both refl (sym e))) (λ e. absurd (not-both refl e)) (λ e. refl) (x % 2) (y % 2) (mod-lt x (zero-lt-suc 1))
+    (mod-lt y (zero-lt-suc 1))
+
+bit-half : (x b : ℕ) → bit (x / 2) b ≡ bit x (suc b)
+bit-half x b = ap (λ (n : ℕ). eqb (n % 2) 1) (shr-shr x 1 b ∙ ap (λ (n : ℕ). x / 2 ^ n) (omega arith))
+
+-- words with the same bits are the same
+pub bits-same : (n x y : ℕ) → x < 2 ^ n → y < 2 ^ n → ((b : ℕ) → b < n → bit x b ≡ bit y b) → x ≡ y
+bits-same zero x y hx hy e = omega arith
+bits-same (suc n) x y hx hy e =
+    let p = pow-suc 2 n in
+    let hi : x / 2 ≡ y / 2 = bits-same n (x / 2) (y / 2) (omega arith) (omega arith) (λ b lb. bit-half x b ∙ e (suc b) (omega arith) ∙ sym (bit-half y b)) in
+    let dx : x / 1 ≡ x = omega arith in
+    let dy : y / 1 ≡ y = omega arith in
+    let lo : x % 2 ≡ y % 2 = odd-same x y (rw (dx, dy) at (e 0 (omega arith))) in
+    omega arith
+
+-- n ones
+pub bit-ones : (n b : ℕ) → bit (2 ^ n - 1) b ≡ ltb b n
+bit-ones zero b = bit-zero b ∙ sym (le-ltb b 0 (omega arith))
+bit-ones (suc n) zero =
+    let odd : (2 ^ suc n - 1) / 1 % 2 ≡ 1 = omega (arith, pow-suc 2 n, pow-pos n) in
+    eq-eqb ((2 ^ suc n - 1) / 1 % 2) 1 odd ∙ sym (lt-ltb 0 (suc n) (omega arith))
+bit-ones (suc n) (suc b) =
+    let half : (2 ^ suc n - 1) / 2 ≡ 2 ^ n - 1 = omega (arith, pow-suc 2 n, pow-pos n) in
+    sym (bit-half (2 ^ suc n - 1) b) ∙ ap (λ (x : ℕ). bit x b) half ∙ bit-ones n b ∙ sym (leb·suc-suc (suc b) n)

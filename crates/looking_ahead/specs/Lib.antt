@@ -1,0 +1,3 @@
+pub mod Lives
+pub mod Sweeps
+pub mod Ahead

@@ -1,0 +1,24 @@
+-- The levels of live words: level k has, for each boat from k on, the slots that the boats below k leave it. Assumes nothing.
+use mathlib.Core.Path.{_≡_}
+use mathlib.Core.Bool.{Bool, true, false, not, _&&_}
+use mathlib.Core.List.{List}
+use Prim.Native.Nat.{ℕ, suc, _^_, _≤_, _<_}
+use lib.Dec.{ltb, eqb}
+use lib.ListN.{take}
+use Rattle.problem.specs.Tables.{Tables, boats, size, isListed, bit}
+use Rattle.methods.proofs.ByPlan.{isOpen}
+use Rattle.words.specs.Layout.{liveAt}
+
+-- under the plan so far p, up to level i
+abbrev pub Lives : Tables → List ℕ → (p : List ℕ) → (i : ℕ) → Type 0
+Lives t w p i =
+    (k j b : ℕ) → k ≤ i → k ≤ j → j < boats t → b < 64 → bit (liveAt w k j) b ≡ (isOpen t (take k p) j b && ltb b (size (t .sizes) j))
+
+-- level i + 1 has level i's words at the later boats that are not listed with i
+abbrev pub Copied : Tables → List ℕ → (i : ℕ) → Type 0
+Copied t w i = (j : ℕ) → i < j → j < boats t → isListed (t .pairs) i j ≡ false → liveAt w (suc i) j ≡ liveAt w i j
+
+-- r is the set of the boats below i at whose level boat j lost a slot
+pub record LostAt (w : List ℕ) (i j r : ℕ) : Type 0 where
+  pub members : (g : ℕ) → bit r g ≡ (ltb g i && not (eqb (liveAt w g j) (liveAt w (suc g) j)))
+  pub below : r < 2 ^ i

@@ -1,0 +1,53 @@
+-- A trial that looks back: where each step of a visit leads, under both ways back. Assumes nothing.
+use mathlib.Core.Path.{_≡_, refl, sym, ap, _∙_}
+use mathlib.Core.Bool.{Bool}
+use mathlib.Core.List.{List, [], _∷_}
+use mathlib.Core.Option.{Option}
+use Prim.Native.Nat.{ℕ, _+_, _≤_, _<_}
+use native.Mathlib.Numerals.{add-one}
+use lib.ListN.{length, take, drop}
+use lib.Seq.{length-take-le}
+use Rattle.problem.specs.Tables.{Tables, boats, size}
+use Rattle.problem.specs.declared.Allowance.the-variants.{Trials}
+use Rattle.events.specs.declared.Counts.{Counts}
+use Rattle.events.specs.declared.Counted.{Counted}
+use Rattle.events.specs.declared.Counted.the-variants.{Within, Out as CountedOut}
+use Rattle.events.specs.Events.{trial, Search, _then_}
+use Rattle.events.specs.Allowances.{outcome, undecided}
+use Rattle.events.specs.Counts.{trialCounted, Fits, cutAt, Leads}
+use Rattle.events.proofs.Leading.{leads-eq, leads-trans, leads-trial, trial-out}
+use Rattle.methods.specs.Moves.{only}
+use Rattle.methods.specs.BT.{lookBack, blameFailing, lookingBack}
+use Rattle.words.specs.Sets.{WithMember}
+use Rattle.words.specs.Visits.{here, onward}
+use Rattle.words.proofs.Visiting.{settled, refused, here-trial, here-blamed, here-spent}
+
+-- what is to come after a trial's looks: slot a passes, or the boat that failed is to blame
+abbrev pub ended : Tables → (jumps : Bool) → List ℕ → (i a s : ℕ) → Option ℕ → Search
+ended t jumps w i a s f = settled (blameFailing f) (onward t (lookingBack t) jumps w i a s) (refused t (lookingBack t) jumps w i a s)
+
+-- slot a of boat i has passed the boats below h
+abbrev pub mid : Tables → (jumps : Bool) → List ℕ → (i a s h : ℕ) → Search
+mid t jumps w i a s h = lookBack t i a h (drop h (take i w)) .checks then ended t jumps w i a s (lookBack t i a h (drop h (take i w)) .failing)
+
+module _ (t : Tables) (jumps : Bool) (w : List ℕ) (i : ℕ) (le : i ≤ length w) (lt : i < boats t) where
+  tried : (a s : ℕ) → a < size (t .sizes) i → here t (lookingBack t) jumps w i a s ≡ (trial i a ∷ []) then mid t jumps w i a s 0
+  unfolding lookingBack
+  tried a s la = rw (length-take-le i w le) at (here-trial t (lookingBack t) jumps w i le lt a s la refl)
+
+  pub trial-on : (a s : ℕ) (m k : Counts) (r : Counted) → Fits m → a < size (t .sizes) i → r ≡ trialCounted m → r ≡ Within k →
+      Leads m (here t (lookingBack t) jumps w i a s) k (mid t jumps w i a s 0)
+  trial-on a s m k r f la e g = leads-trans (leads-eq m _ _ f (tried a s la)) (leads-trial m k _ f i a (sym e ∙ g))
+
+  pub trial-end : (a s : ℕ) (m k : Counts) (r : Counted) → Fits m → a < size (t .sizes) i → r ≡ trialCounted m → r ≡ CountedOut k →
+      cutAt m (here t (lookingBack t) jumps w i a s) ≡ outcome (undecided Trials) (k .checks) (k .trials)
+  trial-end a s m k r f la e g = ap (cutAt m) (tried a s la) ∙ trial-out m k _ f i a (sym e ∙ g)
+
+  -- the boat that failed goes into the set, and the next slot is due
+  pub blamed-on : (a s h u : ℕ) (m : Counts) → Fits m → WithMember s h u →
+      Leads m (refused t (lookingBack t) jumps w i a s (only h)) m (here t (lookingBack t) jumps w i (a + 1) u)
+  blamed-on a s h u m f q = rw add-one (leads-eq m _ _ f (here-blamed t (lookingBack t) jumps w i a s u (only h) (λ _. q .members)))
+
+  pub no-slot : (a s : ℕ) (m : Counts) → Fits m → size (t .sizes) i ≤ a →
+      Leads m (here t (lookingBack t) jumps w i a s) m (here t (lookingBack t) jumps w i (size (t .sizes) i) s)
+  no-slot a s m f out = leads-eq m _ _ f (here-spent t (lookingBack t) jumps w i le lt a s out)

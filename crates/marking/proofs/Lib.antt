@@ -1,0 +1,5 @@
+pub mod Looks
+pub mod Marking
+pub mod Lowering
+pub mod Trials
+pub mod Visits

@@ -1,0 +1,107 @@
+-- The b words of boat i and of the later ones, each once. Assumes nothing.
+use mathlib.Core.Path.{_≡_, sym, _∙_, subst}
+use mathlib.Core.Logic.{⊎-elim}
+use Prim.Native.Nat.{ℕ, _+_, _-_, _≤_, _<_}
+use borrow.Author.Needs.{needs}
+use native.Mathlib.Omega.{arith}
+use lib.ListN.{length, set, length-set}
+use Rattle.marking.proofs.Lowering.{Lowering, lowering-none, lowering-kept, lowering-set, lowering-only, lowering-all}
+use Rattle.marking.proofs.lower.Statement.{statement}
+use Rattle.marking.proofs.lower.Tie as tie
+
+abbrev Inv-loop : tie.InvT-loop
+Inv-loop n i h work₀ j₀ work j = (i < j) × (j ≤ n) × Lowering i h j work₀ work
+
+abbrev μ-loop : tie.MeasureT-loop
+μ-loop n i h work₀ j₀ work j = n - j
+
+-- the words are as many as at the entry
+same : (c : tie.At-loop Inv-loop μ-loop) → length (c .loop .work) ≡ length (c .before .args .work .now)
+same c = c .loop .inv .2 .only .long ∙ simp length-set
+
+add-work : tie.Need-add-work Inv-loop μ-loop
+add-work c = search needs
+
+mul-work : tie.Need-mul-work Inv-loop μ-loop
+mul-work c = search needs
+
+slice-write-work : tie.Need-slice-write-work Inv-loop μ-loop
+slice-write-work c = search needs
+
+add-j : tie.Need-add-j Inv-loop μ-loop
+add-j c = search needs
+
+loop-holds : tie.Need-loop-holds Inv-loop μ-loop
+loop-holds c = (omega arith, omega arith, lowering-none _ _ _)
+
+add-if1 : tie.Need-add-if1 Inv-loop μ-loop
+add-if1 c = search needs
+
+mul-if1 : tie.Need-mul-if1 Inv-loop μ-loop
+mul-if1 c = search needs
+
+slice-read-if1 : tie.Need-slice-read-if1 Inv-loop μ-loop
+slice-read-if1 c = omega (arith, same (c .before .before), c .before .before .before .pre)
+
+add-work-2 : tie.Need-add-work-2 Inv-loop μ-loop
+add-work-2 c = search needs
+
+mul-work-2 : tie.Need-mul-work-2 Inv-loop μ-loop
+mul-work-2 c = search needs
+
+slice-write-work-2 : tie.Need-slice-write-work-2 Inv-loop μ-loop
+slice-write-work-2 c = omega (arith, same (c .before .before .before), c .before .before .before .before .pre)
+
+add-j-2 : tie.Need-add-j-2 Inv-loop μ-loop
+add-j-2 c = search needs
+
+loop-less : tie.Need-loop-less Inv-loop μ-loop
+loop-less c = search needs
+
+loop-again : tie.Need-loop-again Inv-loop μ-loop
+loop-again c =
+    let l = c .before .before .before in
+    let x = l .loop .inv in (
+      omega arith,
+      omega arith,
+      ⊎-elim
+          (λ w. subst (Lowering _ _ _ _) (sym (w .1)) (lowering-set _ _ _ _ _ (x .0) (x .2) (w .0 .taken) (omega (arith, same l, l .before .pre))))
+          (λ w. subst (Lowering _ _ _ _) (sym (w .1)) (lowering-kept _ _ _ _ _ (x .0) (x .2) (w .0 .left)))
+          (c .if1 .came),
+    )
+
+same-length : tie.Need-same-length Inv-loop μ-loop
+same-length c = same (c .before)
+
+returns : tie.Need-returns Inv-loop μ-loop
+returns c =
+    let l = c .before in
+    let x = l .loop .inv in
+    let a = l .before .args in
+    let e : l .loop .j ≡ a .n = omega arith in
+    let short : 64 + a .i < length (a .work .now) = omega arith in
+    let y = subst (λ (j : ℕ). Lowering (a .i) (a .h) j (set (a .work .now) (64 + a .i) (a .h)) (l .loop .work)) e (x .2) in
+    (lowering-all (a .n) (a .i) (a .h) (a .work .now) (l .loop .work) (l .before .pre .0 .0) y (l .before .pre .0 .1) short (l .before .pre .1), lowering-only (a .n) (a .i) (a .h) (a .work .now) (l .loop .work) (l .before .pre .0 .0) y)
+
+pub lower-spec : {M : Type 1} → statement M
+lower-spec =
+    tie.close
+    (tie.spec
+    Inv-loop
+    μ-loop
+    add-work
+    mul-work
+    slice-write-work
+    add-j
+    loop-holds
+    add-if1
+    mul-if1
+    slice-read-if1
+    add-work-2
+    mul-work-2
+    slice-write-work-2
+    add-j-2
+    loop-less
+    loop-again
+    same-length
+    returns)

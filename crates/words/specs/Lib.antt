@@ -1,0 +1,3 @@
+pub mod Layout
+pub mod Sets
+pub mod Visits

@@ -1,0 +1,74 @@
+// Where the rows of each pair begin, found once a run.
+ghost use mathlib.Core.Path.{_≡_};
+ghost use Prim.Native.Nat.{ℕ, _+_, _≤_, _<_};
+ghost use lib.ListN.{length};
+ghost use Rattle.problem.specs.Tables.{listed};
+ghost use Rattle.problem.specs.Rising.{Rising};
+ghost use Rattle.problem.specs.Sane.{Sane};
+ghost use Rattle.words.specs.Layout.{tables, tri, firstPair, Only, Zero, Indexed, Firsts};
+
+// The index row of a boat: its words for the boats below it.
+pub fn row_at(boat: usize) -> usize
+    requires { ⌜ boat < 64 ⌝ }
+    ensures { λ r. ⌜ r ≡ 512 + tri boat ⌝ }
+{
+    512 + (boat * boat - boat) / 2
+}
+
+// For looking back: at each two boats' word, one more than where the rows of their pair begin. An unlisted pair's word stays 0.
+pub fn index_back(sizes: &[u8], pairs: &[u8], rows: &[u64], work: &mut [u64])
+    requires { ⌜ Sane (tables (now sizes) (now pairs) (now rows)) ⌝ }
+    requires { ⌜ (8192 ≤ length (now work)) × Zero 512 4096 (now work) ⌝ }
+    ensures { λ _. ⌜ Indexed (tables (now (sizes .entry)) (now (pairs .entry)) (now (rows .entry))) (now (work .exit)) ⌝ }
+    ensures { λ _. ⌜ Only 512 4096 (now (work .entry)) (now (work .exit)) ⌝ }
+{
+    let count = pairs.len() / 2;
+    let mut start: usize = 0;
+    let mut k: usize = 0;
+    while k < count {
+        let low = problem::lower_of(pairs, k);
+        let at = row_at(problem::higher_of(pairs, k)) + low;
+        work[at] = (start as u64) + 1;
+        start += problem::size_of(sizes, low);
+        k += 1;
+    }
+}
+
+// The end of the pairs that have a boat as their lower one, from the first of them on.
+fn pairs_end(pairs: &[u8], from: usize, boat: usize) -> usize
+    requires { ⌜ Rising (now pairs) ⌝ }
+    requires { ⌜ from ≡ firstPair (now pairs) boat ⌝ }
+    ensures { λ r. ⌜ (from ≤ r) × (r ≡ firstPair (now (pairs .entry)) (boat + 1)) ⌝ }
+{
+    let count = pairs.len() / 2;
+    let mut k = from;
+    while k < count {
+        if problem::lower_of(pairs, k) != boat {
+            return k;
+        }
+        k += 1;
+    }
+    k
+}
+
+// For looking ahead: each boat's first pair as the lower boat, and where its rows begin.
+pub fn index_ahead(sizes: &[u8], pairs: &[u8], rows: &[u64], work: &mut [u64])
+    requires { ⌜ Sane (tables (now sizes) (now pairs) (now rows)) ⌝ }
+    requires { ⌜ 8192 ≤ length (now work) ⌝ }
+    ensures { λ _. ⌜ Firsts (tables (now (sizes .entry)) (now (pairs .entry)) (now (rows .entry))) (now (work .exit)) ⌝ }
+    ensures { λ _. ⌜ Only 192 384 (now (work .entry)) (now (work .exit)) ⌝ }
+{
+    let n = sizes.len();
+    let mut k: usize = 0;
+    let mut start: usize = 0;
+    let mut i: usize = 0;
+    while i < n {
+        work[192 + i] = k as u64;
+        work[320 + i] = start as u64;
+        let next = pairs_end(pairs, k, i);
+        start += (next - k) * problem::size_of(sizes, i);
+        k = next;
+        i += 1;
+    }
+    work[192 + n] = k as u64;
+}
