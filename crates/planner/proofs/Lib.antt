@@ -1,0 +1,10 @@
+pub mod Put
+pub mod Labels
+pub mod PutAhead
+pub mod Preparing
+pub mod Backwards
+pub mod Jumping
+pub mod Walk
+pub mod Copying
+pub mod Refusing
+pub mod Whole
