@@ -1,0 +1,47 @@
+-- Nothing has to hold from turn to turn; what is left of the slice falls. Assumes nothing.
+use Prim.Native.Nat.{_-_}
+use borrow.Author.Needs.{needs}
+use lib.ListN.{length}
+use Rattle.runs.proofs.lent.same_plan.Statement.{statement}
+use Rattle.runs.proofs.lent.same_plan.Tie as tie
+
+abbrev Inv-loop : tie.InvT-loop
+Inv-loop from plan k₀ k = Unit {0}
+
+abbrev μ-loop : tie.MeasureT-loop
+μ-loop from plan k₀ k = length plan - k
+
+loop-holds : tie.Need-loop-holds Inv-loop μ-loop
+loop-holds c = tt
+
+shared-slice-read-if1 : tie.Need-shared-slice-read-if1 Inv-loop μ-loop
+shared-slice-read-if1 c = search needs
+
+returns : tie.Need-returns Inv-loop μ-loop
+returns c = search needs
+
+add-k : tie.Need-add-k Inv-loop μ-loop
+add-k c = search needs
+
+loop-less : tie.Need-loop-less Inv-loop μ-loop
+loop-less c = search needs
+
+loop-again : tie.Need-loop-again Inv-loop μ-loop
+loop-again c = tt
+
+returns-2 : tie.Need-returns-2 Inv-loop μ-loop
+returns-2 c = search needs
+
+pub same-plan-spec : {M : Type 1} → statement M
+same-plan-spec =
+    tie.close
+    (tie.spec
+    Inv-loop
+    μ-loop
+    loop-holds
+    shared-slice-read-if1
+    returns
+    add-k
+    loop-less
+    loop-again
+    returns-2)
