@@ -89,9 +89,39 @@ V3 = tablesOf (1 ∷ 1 ∷ 1 ∷ []) (0 ∷ 1 ∷ 0 ∷ 2 ∷ []) (0 ∷ 0 ∷ [
 abbrev pub V4 : Tables
 V4 = tablesOf (2 ∷ 1 ∷ 1 ∷ []) (0 ∷ 1 ∷ 1 ∷ 2 ∷ []) (1 ∷ 1 ∷ 0 ∷ [])
 
--- CBJ and FC-CBJ that leave the sets of h + 1 to i as they were make other counts here
+-- CBJ that leaves the sets of h + 1 to i as they were makes other counts here
 abbrev pub V10 : Tables
 V10 = tablesOf (3 ∷ 1 ∷ 1 ∷ []) (0 ∷ 1 ∷ 1 ∷ 2 ∷ []) (0 ∷ 1 ∷ 0 ∷ 0 ∷ [])
+
+-- CBJ that loses a boat's set as it moves forward, or puts the set handed down in place of h's, makes 7 checks and 6 trials here; FC-CBJ that leaves i's
+-- blamers out makes 7 checks and 3 trials; FC that empties a boat by one trial's strikes alone makes 10 checks; BM that marks all slots of a boat at once,
+-- and FC that puts back what earlier boats struck, say 'solved'
+abbrev pub W1 : Tables
+W1 = tablesOf (1 ∷ 2 ∷ 3 ∷ 1 ∷ []) (0 ∷ 2 ∷ 1 ∷ 2 ∷ 1 ∷ 3 ∷ 2 ∷ 3 ∷ []) (6 ∷ 5 ∷ 1 ∷ 1 ∷ 1 ∷ 1 ∷ 1 ∷ 0 ∷ [])
+
+-- CBJ that hands down nothing makes 4 checks and 4 trials here
+abbrev pub W2 : Tables
+W2 = tablesOf (2 ∷ 1 ∷ 2 ∷ []) (0 ∷ 1 ∷ 0 ∷ 2 ∷ 1 ∷ 2 ∷ []) (1 ∷ 0 ∷ 1 ∷ 0 ∷ 0 ∷ [])
+
+-- CBJ that empties the set of i alone makes 11 checks and 12 trials here
+abbrev pub W3 : Tables
+W3 = tablesOf (3 ∷ 2 ∷ 1 ∷ []) (0 ∷ 1 ∷ 0 ∷ 2 ∷ 1 ∷ 2 ∷ []) (2 ∷ 3 ∷ 0 ∷ 0 ∷ 1 ∷ 1 ∷ 0 ∷ 0 ∷ [])
+
+-- FC-CBJ that blames a boat for slots that were struck before makes 6 checks and 4 trials here
+abbrev pub W4 : Tables
+W4 = tablesOf (1 ∷ 2 ∷ 2 ∷ 1 ∷ []) (0 ∷ 2 ∷ 1 ∷ 2 ∷ 1 ∷ 3 ∷ 2 ∷ 3 ∷ []) (1 ∷ 1 ∷ 2 ∷ 1 ∷ 1 ∷ 0 ∷ 1 ∷ [])
+
+-- FC-CBJ that puts back what h struck, and not what the boats after it struck, makes 13 checks here
+abbrev pub W5 : Tables
+W5 = tablesOf (2 ∷ 1 ∷ 3 ∷ 2 ∷ 2 ∷ []) (0 ∷ 2 ∷ 1 ∷ 4 ∷ 2 ∷ 3 ∷ []) (1 ∷ 2 ∷ 1 ∷ 0 ∷ 0 ∷ 1 ∷ [])
+
+-- BM that sets b of the later boats where it should lower it says 'no plan' here
+abbrev pub W6 : Tables
+W6 = tablesOf (1 ∷ 2 ∷ 1 ∷ 1 ∷ []) (1 ∷ 2 ∷ []) (0 ∷ 1 ∷ [])
+
+-- FC-CBJ that leaves the sets of h + 1 to i as they were makes 9 checks and 5 trials here
+abbrev pub W7 : Tables
+W7 = tablesOf (3 ∷ 1 ∷ 2 ∷ []) (0 ∷ 2 ∷ 1 ∷ 2 ∷ []) (2 ∷ 3 ∷ 0 ∷ 0 ∷ [])
 
 abbrev pub planOfV2 : Decision
 planOfV2 = decided (solved (0 ∷ 1 ∷ 0 ∷ 0 ∷ []))
@@ -118,6 +148,41 @@ furtherCases =
     ∷ case Bm V10 ample ample (decided noPlan) 4 7
     ∷ case Fc V10 ample ample (decided noPlan) 4 4
     ∷ case FcCbj V10 ample ample (decided noPlan) 3 3
+    ∷ case Bt W1 ample ample (decided noPlan) 12 10
+    ∷ case Cbj W1 ample ample (decided noPlan) 12 10
+    ∷ case Bm W1 ample ample (decided noPlan) 9 10
+    ∷ case Fc W1 ample ample (decided noPlan) 9 4
+    ∷ case FcCbj W1 ample ample (decided noPlan) 9 4
+    ∷ case Bt W2 ample ample (decided noPlan) 5 6
+    ∷ case Cbj W2 ample ample (decided noPlan) 5 6
+    ∷ case Bm W2 ample ample (decided noPlan) 5 6
+    ∷ case Fc W2 ample ample (decided noPlan) 5 3
+    ∷ case FcCbj W2 ample ample (decided noPlan) 5 3
+    ∷ case Bt W3 ample ample (decided noPlan) 11 12
+    ∷ case Cbj W3 ample ample (decided noPlan) 9 9
+    ∷ case Bm W3 ample ample (decided noPlan) 10 12
+    ∷ case Fc W3 ample ample (decided noPlan) 10 5
+    ∷ case FcCbj W3 ample ample (decided noPlan) 8 4
+    ∷ case Bt W4 ample ample (decided noPlan) 8 8
+    ∷ case Cbj W4 ample ample (decided noPlan) 5 5
+    ∷ case Bm W4 ample ample (decided noPlan) 6 8
+    ∷ case Fc W4 ample ample (decided noPlan) 6 4
+    ∷ case FcCbj W4 ample ample (decided noPlan) 5 3
+    ∷ case Bt W5 ample ample (decided noPlan) 10 14
+    ∷ case Cbj W5 ample ample (decided noPlan) 10 14
+    ∷ case Bm W5 ample ample (decided noPlan) 10 14
+    ∷ case Fc W5 ample ample (decided noPlan) 14 6
+    ∷ case FcCbj W5 ample ample (decided noPlan) 14 6
+    ∷ case Bt W6 ample ample planOfV2 2 6
+    ∷ case Cbj W6 ample ample planOfV2 2 6
+    ∷ case Bm W6 ample ample planOfV2 2 6
+    ∷ case Fc W6 ample ample planOfV2 2 5
+    ∷ case FcCbj W6 ample ample planOfV2 2 5
+    ∷ case Bt W7 ample ample (decided noPlan) 9 12
+    ∷ case Cbj W7 ample ample (decided noPlan) 7 8
+    ∷ case Bm W7 ample ample (decided noPlan) 9 12
+    ∷ case Fc W7 ample ample (decided noPlan) 9 5
+    ∷ case FcCbj W7 ample ample (decided noPlan) 7 4
     ∷ []
 
 pub further : map comesOf furtherCases ≡ map (λ k. k .expected) furtherCases

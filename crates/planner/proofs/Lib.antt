@@ -8,3 +8,5 @@ pub mod Walk
 pub mod Copying
 pub mod Refusing
 pub mod Whole
+pub mod Theorems
+pub mod Wrong

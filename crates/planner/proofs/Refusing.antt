@@ -43,7 +43,7 @@ or-true : (b : Bool) → (b || true) ≡ true
 or-true true = refl
 or-true false = refl
 
-above-five : (n : ℕ) → 5 < n → notOneToFive n ≡ true
+pub above-five : (n : ℕ) → 5 < n → notOneToFive n ≡ true
 above-five n l = ap (λ (b : Bool). eqb n 0 || b) (lt-ltb 5 n l) ∙ or-true (eqb n 0)
 
 pub unknown-refused : (n : ℕ) → wayOf n ≡ Unknown → notOneToFive n ≡ true

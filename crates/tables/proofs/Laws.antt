@@ -53,7 +53,7 @@ abbrev pub Refuses : List Test → Type 0
 Refuses [] = Unit {0}
 Refuses (test ∷ ts) = ((k : ℕ) → 100 ≤ test .says k .number) × Refuses ts
 
-gives-refused : (ts : List Test) (w : Told) → Gives ts w → Refuses ts → 100 ≤ w .number
+pub gives-refused : (ts : List Test) (w : Told) → Gives ts w → Refuses ts → 100 ≤ w .number
 gives-refused ts w (here {test} {tests} k l p f) r = r .0 k
 gives-refused ts w (later {test} {tests} f g) r = gives-refused tests w g (r .1)
 
