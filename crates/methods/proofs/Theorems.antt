@@ -1,15 +1,14 @@
 -- THE THEOREMS ON THE METHODS that a reader is shown: demand 2 and demand 3 of each method's definition, under any allowances. Assumes nothing.
-use mathlib.Core.Path.{_≡_, refl, sym, ap, _∙_, subst}
-use mathlib.Core.List.{List, []}
+use mathlib.Core.Path.{_≡_, refl, sym, ap, subst}
+use mathlib.Core.List.{List}
 use Prim.Native.Nat.{ℕ, _≤_, _<_}
 use lib.Dec.{T}
 use Rattle.problem.specs.Tables.{Tables}
 use Rattle.problem.specs.Sane.{Sane}
-use Rattle.problem.specs.Plans.{First, NoPlan}
 use Rattle.problem.specs.declared.Way.{Way}
 use Rattle.problem.specs.declared.Way.the-variants.{Bt, Cbj, Bm, Fc, FcCbj}
-use Rattle.events.specs.Events.{Event, Ending, solved, noPlan, astray, Search, trials, checks}
-use Rattle.events.specs.Allowances.{decided, Outcome, cut}
+use Rattle.events.specs.Events.{Ending, solved, noPlan, astray, Search, trials, checks}
+use Rattle.events.specs.Allowances.{decided, cut}
 use Rattle.events.proofs.Laws.{decided-fits, raising, enough}
 use Rattle.tables.specs.Examination.{Fine}
 use Rattle.tables.proofs.Fine.{fine-sane}
@@ -22,7 +21,7 @@ use Rattle.methods.specs.FC.{Strikes, lookingAhead, fc}
 use Rattle.methods.specs.FCCBJ.{fccbj}
 use Rattle.methods.specs.Methods.{searchBy}
 use Rattle.methods.specs.Promises.{Means, Saves, cbjForBt, bmForBt, fcCbjForFc}
-use Rattle.methods.proofs.Runs.{Runs, runs}
+use Rattle.methods.proofs.Runs.{runs}
 use Rattle.methods.proofs.Standing.{Meaning, fit-start}
 use Rattle.methods.proofs.Sound.{behind-start, sound-start}
 use Rattle.methods.proofs.Reached.{Reached, members-below}

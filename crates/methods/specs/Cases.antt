@@ -8,7 +8,7 @@ use Rattle.problem.specs.Tables.{Tables, place, isListed, start, allowed}
 use Rattle.problem.specs.declared.Way.{Way}
 use Rattle.problem.specs.declared.Way.the-variants.{Bt, Cbj, Bm, Fc, FcCbj}
 use Rattle.problem.specs.declared.Allowance.the-variants.{Checks, Trials}
-use Rattle.events.specs.Events.{Search, solved, noPlan}
+use Rattle.events.specs.Events.{solved, noPlan}
 use Rattle.events.specs.Allowances.{Decision, decided, undecided, Outcome, outcome, cutFrom, cut}
 use Rattle.methods.specs.Choices.{choices, slotOf, mayStand, shownEvent, shownPlan, shownEnding, shown}
 use Rattle.methods.specs.Machine.{tried, backTo, leave, atChoice, atBoat, atSea, step, onward, run, counts, span, ahead, searchFrom, search}

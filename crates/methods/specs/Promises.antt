@@ -1,5 +1,4 @@
 -- What the theorems on the methods speak of. (They are in proofs/Theorems.antt.) Assumes nothing.
-use mathlib.Core.List.{List}
 use Rattle.problem.specs.Tables.{Tables}
 use Rattle.problem.specs.Plans.{First, NoPlan}
 use Rattle.problem.specs.declared.Way.{Way}

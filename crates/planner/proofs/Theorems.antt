@@ -16,10 +16,10 @@ use Rattle.problem.specs.declared.Allowance.the-variants.{Checks, Trials}
 use Rattle.problem.specs.declared.Way.{Way as Method}
 use Rattle.problem.specs.declared.Way.the-variants.{Bt, Cbj, Bm, Fc, FcCbj}
 use Rattle.problem.specs.declared.Known.the-variants.{Way}
-use Rattle.tables.specs.Tests.{Test, once, firstOf}
+use Rattle.tables.specs.Tests.{Test, firstOf}
 use Rattle.tables.specs.Applies.{Fails, NoneApplies, none, nor, Gives}
 use Rattle.tables.specs.Examination.{tests, Fine}
-use Rattle.tables.proofs.Laws.{Refuses, gives-refused, gives-first, first-gives, none-fine, none-is-fine}
+use Rattle.tables.proofs.Laws.{gives-refused, gives-first, first-gives, none-fine, none-is-fine}
 use Rattle.events.specs.Events.{Ending, solved, noPlan, astray}
 use Rattle.events.specs.Allowances.{Decision, decided, undecided, Outcome, outcome, cut}
 use Rattle.events.proofs.Laws.{OutOfChecks, OutOfTrials, checks-undecided, trials-undecided}

@@ -1,8 +1,7 @@
 -- A search on its way: what the loop keeps, how each move keeps it and leaves less ahead, and how it ends. Assumes nothing.
 use mathlib.Core.Path.{_≡_, refl, sym, ap, _∙_, subst}
-use mathlib.Core.Logic.{inl, inr}
-use mathlib.Core.List.{List, [], _∷_, _++_}
-use Prim.Native.Nat.{ℕ, zero, suc, _≤_, _<_}
+use mathlib.Core.List.{List, []}
+use Prim.Native.Nat.{ℕ, suc, _≤_, _<_}
 use native.Mathlib.Omega.{arith}
 use lib.ListN.{length, take, getD}
 use lib.Seq.{length-take-le, take-take, getD-take}
@@ -11,12 +10,12 @@ use Rattle.problem.specs.Sane.{Sane}
 use Rattle.problem.specs.declared.Way.{Way}
 use Rattle.problem.specs.declared.Way.the-variants.{Bt, Cbj, Bm, Fc, FcCbj}
 use Rattle.events.specs.Events.{Search, solved, noPlan, Ending}
-use Rattle.events.specs.Allowances.{decided, Outcome, outcome, cutFrom}
+use Rattle.events.specs.Allowances.{decided, outcome, cutFrom}
 use Rattle.events.specs.declared.Counts.{Counts}
 use Rattle.events.specs.Counts.{Fits, cutAt, Leads}
 use Rattle.events.proofs.Leading.{leads-eq, leads-trans}
 use Rattle.methods.specs.Choices.{choices}
-use Rattle.methods.specs.Machine.{Method, nowhere, back, Step, stop, next, step, onward, searchFrom, search}
+use Rattle.methods.specs.Machine.{nowhere, back, stop, next, step, onward, searchFrom, search}
 use Rattle.methods.proofs.Falling.{search-step, aheadOf, forward-falls, return-falls}
 use Rattle.methods.proofs.Runs.{step-end, step-out, step-back}
 use Rattle.words.specs.Layout.{word, Only, Placed}

@@ -2,9 +2,8 @@
 use mathlib.Core.Path.{_≡_}
 use mathlib.Core.List.{List}
 use Prim.Native.Nat.{ℕ, zero, suc, _+_, _<_}
-use lib.ListN.{take}
 use Rattle.words.specs.Layout.{word, Only}
-use Rattle.words.specs.Sets.{Deepest, HandedDown, Lower}
+use Rattle.words.specs.Sets.{Deepest, HandedDown}
 use Rattle.words.specs.declared.Unlabelled.{Unlabelled}
 use Rattle.words.specs.declared.Unlabelled.the-variants.{Back, NoPlan}
 

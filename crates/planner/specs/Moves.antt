@@ -7,11 +7,11 @@ use lib.ListN.{take}
 use Rattle.problem.specs.Tables.{Tables, size}
 use Rattle.problem.specs.declared.Allowance.the-variants.{Checks, Trials}
 use Rattle.problem.specs.declared.Way.{Way}
-use Rattle.problem.specs.declared.Way.the-variants.{Bt, Cbj, Bm, Fc, FcCbj}
+use Rattle.problem.specs.declared.Way.the-variants.{Bt, Cbj, Fc, FcCbj}
 use Rattle.events.specs.Allowances.{outcome, undecided}
 use Rattle.events.specs.declared.Counts.{Counts}
 use Rattle.events.specs.Counts.{cutAt, Leads}
-use Rattle.methods.specs.Machine.{Method, nowhere, back}
+use Rattle.methods.specs.Machine.{nowhere, back}
 use Rattle.words.specs.Layout.{word, Only}
 use Rattle.words.specs.declared.Unlabelled.{Unlabelled}
 use Rattle.words.specs.declared.Unlabelled.the-variants.{Back, NoPlan}

@@ -4,7 +4,6 @@ use mathlib.Core.List.{List, []}
 use Prim.Native.Nat.{ℕ}
 use Rattle.problem.specs.Tables.{Tables}
 use Rattle.problem.specs.declared.Way.{Way}
-use Rattle.methods.specs.Machine.{Method}
 use Rattle.words.specs.Layout.{Only, Firsts}
 use Rattle.looking_ahead.specs.Lives.{Lives, Copied}
 use Rattle.planner.specs.Memory.{methodBy, memory, Kept}

@@ -1,11 +1,9 @@
 -- What each reply says on paper: the number and the values that documents 01 and 02 give it. (Document 01, 'Numbers given back'.) Assumes nothing.
-use mathlib.Core.Path.{_≡_, refl, sym, ap, ap₂, _∙_}
+use mathlib.Core.Path.{ap}
 use mathlib.Core.List.{List, [], _∷_}
 use Prim.Native.Nat.{ℕ, _+_}
-use lib.ListN.{getD}
 use Rattle.problem.specs.declared.Refusal.{Refusal}
 use Rattle.problem.specs.declared.Refusal.the-variants.{Method, Boats, Size, PairBytes, Pair, RowWords, RowBit, PlanMemory, WorkMemory, GivenLength, GivenSlot}
-use Rattle.problem.specs.declared.Allowance.{Allowance}
 use Rattle.problem.specs.declared.Allowance.the-variants.{Checks, Trials}
 use Rattle.problem.specs.declared.Answer.{Answer}
 use Rattle.problem.specs.declared.Answer.the-variants.{Solved, NoPlan, Undecided, Refused}

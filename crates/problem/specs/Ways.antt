@@ -1,5 +1,5 @@
 -- The five methods by their numbers: 1 BT, 2 CBJ, 3 BM, 4 FC, 5 FC-CBJ; no other number is a method. Assumes nothing.
-use mathlib.Core.List.{List, [], _∷_}
+use mathlib.Core.List.{[], _∷_}
 use Prim.Native.Nat.{ℕ}
 use lib.ListN.{getD}
 use Rattle.problem.specs.declared.Way.the-variants.{Bt, Cbj, Bm, Fc, FcCbj}

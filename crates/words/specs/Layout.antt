@@ -7,7 +7,7 @@
 --   4096 + 64 i + k    BM: the mark of slot k of boat i; FC, FC-CBJ: the live slots of boat k as they are before boat i's trial
 use mathlib.Core.Path.{_≡_}
 use mathlib.Core.Logic.{_⊎_}
-use mathlib.Core.Bool.{Bool, cond}
+use mathlib.Core.Bool.{cond}
 use mathlib.Core.List.{List, _++_}
 use Prim.Native.Nat.{ℕ, zero, suc, _+_, _*_, _≤_, _<_}
 use lib.Dec.{leb}

@@ -1,7 +1,7 @@
 -- One loop, which keeps that a search is on its way: what was to come at the entry leads to what is to come here. Assumes nothing.
-use mathlib.Core.Path.{_≡_, refl, sym, ap, _∙_, subst}
+use mathlib.Core.Path.{_≡_, refl, sym, _∙_, subst}
 use mathlib.Core.List.{List}
-use Prim.Native.Nat.{ℕ, suc, _≤_, _<_}
+use Prim.Native.Nat.{ℕ, _≤_, _<_}
 use native.Mathlib.Omega.{arith}
 use native.Mathlib.Numerals.{add-one}
 use borrow.Author.Needs.{needs}
@@ -16,17 +16,16 @@ use Rattle.problem.specs.declared.Allowance.the-variants.{Checks, Trials}
 use Rattle.problem.specs.declared.Reply.{Reply}
 use Rattle.events.specs.declared.Counts.{Counts}
 use Rattle.events.specs.Counts.{cutAt}
-use Rattle.events.specs.Allowances.{outcome, decided, undecided}
-use Rattle.events.specs.Events.{solved, noPlan}
+use Rattle.events.specs.Allowances.{outcome, decided}
+use Rattle.events.specs.Events.{solved}
 use Rattle.methods.specs.Machine.{search as searchBy}
 use Rattle.methods.proofs.Falling.{aheadOf}
 use Rattle.words.specs.Layout.{tables, word, Only, Placed}
 use Rattle.words.specs.declared.Unlabelled.{Unlabelled}
-use Rattle.words.specs.declared.Unlabelled.the-variants.{Back, NoPlan as Nowhere}
 use Rattle.words.proofs.Only.{only-refl, only-trans}
 use Rattle.planner.specs.declared.labelled.Labelled.the-variants.{Passed, Spent, OutOfChecks, OutOfTrials}
 use Rattle.planner.specs.Memory.{methodBy}
-use Rattle.planner.specs.Moves.{Labels, Forward, NoSlot, Unlabels, GoesBack}
+use Rattle.planner.specs.Moves.{Labels, Forward, NoSlot, Unlabels}
 use Rattle.planner.specs.Searches.{decisionOf, Searched}
 use Rattle.planner.proofs.Walk.{Underway, begins, long, forward, forward-less, left-long, no-plan, given-up, backward, backward-less, whole, placed-of}
 use Rattle.planner.proofs.search.search.Statement.{statement}
