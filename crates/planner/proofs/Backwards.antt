@@ -3,7 +3,7 @@
 use mathlib.Core.Path.{_≡_, refl, sym, ap, _∙_, subst}
 use mathlib.Core.Bool.{Bool, _&&_, and-true}
 use mathlib.Core.List.{List}
-use mathlib.Core.Logic.{inl, inr}
+use mathlib.Core.Logic.{inr}
 use Prim.Native.Nat.{ℕ, zero, suc, _+_, _-_, _*_, _^_, _≤_, _<_}
 use native.Mathlib.Omega.{arith}
 use lib.Dec.{ltb}
@@ -20,7 +20,7 @@ use Rattle.methods.specs.BM.{bm, lowered}
 use Rattle.methods.proofs.Looking.{may-unlisted}
 use Rattle.methods.proofs.ByPlan.{isOpen, aheadByPlan}
 use Rattle.methods.proofs.Runs.{at}
-use Rattle.words.specs.Layout.{word, Only, Placed, tri, Indexed, Firsts, liveAt}
+use Rattle.words.specs.Layout.{word, Only, Placed, liveAt}
 use Rattle.words.specs.declared.Unlabelled.{Unlabelled}
 use Rattle.words.specs.declared.Unlabelled.the-variants.{Back, NoPlan}
 use Rattle.words.proofs.Only.{only-refl, only-widen, only-take}
@@ -31,6 +31,7 @@ use Rattle.looking_ahead.proofs.Openings.{open-suc}
 use Rattle.planner.specs.Memory.{Kept}
 use Rattle.planner.specs.Moves.{Unlabels}
 use Rattle.planner.specs.Jumps.{stepsBack}
+use Rattle.planner.proofs.Put.{placed-stays, indexed-stays}
 
 -- ---- at a boat before
 module _ (t : Tables) (w : List ℕ) {i h : ℕ} (lh : h < i) where
@@ -54,19 +55,6 @@ module _ (t : Tables) (w : List ℕ) {i h : ℕ} (lh : h < i) where
 
 -- ---- the words of the sets, or of the marks' b, have changed
 module _ (t : Tables) {w w′ : List ℕ} (o : Only 64 128 w w′) where
-  pub placed-stays : (i : ℕ) → i ≤ 64 → Placed t w i → Placed t w′ i
-  placed-stays i li p h lh = rw (o .others h (inl (omega arith))) (p h lh)
-
-  pub indexed-stays : Indexed t w → Indexed t w′
-  indexed-stays x h i lh li = o .others (512 + tri i + h) (inr (omega arith)) ∙ x h i lh li
-
-  pub firsts-stay : Firsts t w → Firsts t w′
-  firsts-stay f =
-      record {
-        pairFrom = λ k lk. o .others (192 + k) (inr (omega arith)) ∙ f .pairFrom k lk;
-        rowFrom = λ k lk. o .others (320 + k) (inr (omega arith)) ∙ f .rowFrom k lk;
-      }
-
   live-stays : (k j : ℕ) → liveAt w′ k j ≡ liveAt w k j
   live-stays k j = o .others (4096 + 64 * k + j) (inr (omega arith))
 
@@ -151,8 +139,8 @@ module _ {t : Tables} {w : List ℕ} {i : ℕ} (g : Leaving t w i) where
         same = only-take o (suc (i - 1)) (omega arith) (omega (arith, left-long));
         only = only-widen (omega arith) (omega arith) o;
         kept = (
-          indexed-stays t wide (q .0),
-          placed-stays t wide (i - 1) (omega (arith, left-few)) (placed-back t w (omega arith) (q .1)),
+          indexed-stays wide t (omega arith) (q .0),
+          placed-stays wide t (i - 1) (omega (arith, left-few)) (placed-back t w (omega arith) (q .1)),
           λ k lo hi. o .others k (inr lo) ∙ q .2 k lo hi,
         );
         goes =

@@ -32,7 +32,8 @@ use Rattle.looking_ahead.proofs.Live.{lost-blamers}
 use Rattle.planner.specs.Memory.{Kept}
 use Rattle.planner.specs.Moves.{Unlabels}
 use Rattle.planner.specs.Jumps.{HandsDown, JumpsBack}
-use Rattle.planner.proofs.Backwards.{Leaving, left-few, left-long, kept-as, unlabels-as, placed-back, lives-back, copied-back, placed-stays, indexed-stays, firsts-stay, lives-stay, copied-stays}
+use Rattle.planner.proofs.Backwards.{Leaving, left-few, left-long, kept-as, unlabels-as, placed-back, lives-back, copied-back, lives-stay, copied-stays}
+use Rattle.planner.proofs.Put.{placed-stays, indexed-stays, firsts-stay}
 
 or-none : (a : Bool) → (a || false) ≡ a
 or-none true = refl
@@ -139,8 +140,8 @@ module _ {t : Tables} {w : List ℕ} {i : ℕ} (g : Leaving t w i) where
         same = plan-same (left-few g) (g .words) d;
         only = within (left-few g) (g .words) d;
         kept = (
-          indexed-stays t o (q .0),
-          placed-stays t o h (omega (arith, left-few g)) (placed-back t w lh (q .1)),
+          indexed-stays o t (omega arith) (q .0),
+          placed-stays o t h (omega (arith, left-few g)) (placed-back t w lh (q .1)),
           lower-after (left-few g) (g .words) d (q .2),
         );
         goes = goes-back t (lookingBack t) w i (word w (64 + i)) (g .boat) (left-long g) (λ j. sym (or-none (bit (word w (64 + i)) j))) w′ h d;
@@ -182,8 +183,8 @@ module _ {t : Tables} {w : List ℕ} {i : ℕ} (g : Leaving t w i) where
             same = plan-same (left-few g) (g .words) d;
             only = within (left-few g) (g .words) d;
             kept = (
-              firsts-stay t o (q .0),
-              placed-stays t o h low (placed-back t w lh (q .1)),
+              firsts-stay o t (omega arith) (q .0),
+              placed-stays o t h low (placed-back t w lh (q .1)),
               lives-stay t o h low short (lives-back t w lh (q .2)),
               λ named. copied-stays t o h (copied-back t w lh (left-long g) (g .fit) (q .2)),
               lower-after (left-few g) (g .words) d (q .4),

@@ -98,6 +98,9 @@ module _ (w : List ℕ) (i s : ℕ) (li : i < 64) (room : 8192 ≤ length w) whe
 abbrev pub put : List ℕ → (i b s : ℕ) → List ℕ
 put w i b s = set (set (set w i b) (64 + i) s) (65 + i) 0
 
+pub put-long : (w : List ℕ) (i b s : ℕ) → length (put w i b s) ≡ length w
+put-long w i b s = simp length-set
+
 module _ (w : List ℕ) (i b s : ℕ) (li : i < 64) (room : 8192 ≤ length w) where
   put-room : 8192 ≤ length (set (set w i b) (64 + i) s)
   put-room = omega (arith, length-set (set w i b) (64 + i) s, length-set w i b)
@@ -111,6 +114,11 @@ module _ (w : List ℕ) (i b s : ℕ) (li : i < 64) (room : 8192 ≤ length w) w
   put-plan =
       take-set-le (suc i) (set (set w i b) (64 + i) s) (65 + i) 0 (omega arith) ∙ take-set-le (suc i) (set w i b) (64 + i) s (omega arith)
       ∙ take-suc-set w i b (omega arith)
+
+  pub put-slot : word (put w i b s) i ≡ b
+  put-slot =
+      getD-set-other (set (set w i b) (64 + i) s) (65 + i) i 0 0 (omega arith) ∙ getD-set-other (set w i b) (64 + i) i s 0 (omega arith)
+      ∙ getD-set-same w i b 0 (omega arith)
 
   pub put-own : word (put w i b s) (64 + i) ≡ s
   put-own =

@@ -1,17 +1,16 @@
 -- A visit that looks ahead, once its answer is stored: a slot that passed, with the level after the next as a copy; no slot left; the end of the run.
 -- Assumes nothing.
-use mathlib.Core.Path.{_≡_, refl, sym, ap, ap₂, _∙_, fun-ext, subst, subst₂}
+use mathlib.Core.Path.{_≡_, refl, sym, ap, ap₂, _∙_, subst, subst₂}
 use mathlib.Core.Bool.{Bool, true, false}
 use mathlib.Core.List.{List, [], _∷_, _++_}
 use mathlib.Core.Logic.{inl}
 use Prim.Native.Nat.{ℕ, suc, _+_, _*_, _^_, _≤_, _<_}
 use native.Mathlib.Omega.{arith}
-use native.Mathlib.Decide.{decLt, ℕ-discrete}
+use native.Mathlib.Decide.{ℕ-discrete}
 use native.Mathlib.Nat.{le-refl}
-use lib.ListN.{length, take, set, length-set}
+use lib.ListN.{length, take, set}
 use lib.Pow.{pow-pos}
-use lib.Seq.{take-suc-set, take-set-le, getD-set-same, getD-set-other}
-use borrow.Author.Tests.{eq-eqb, ne-eqb, lt-ltb, le-ltb}
+use lib.Seq.{take-set-le, getD-set-same, getD-set-other}
 use Rattle.problem.specs.Tables.{Tables, boats, size, bit}
 use Rattle.problem.specs.Sane.{Sane}
 use Rattle.problem.specs.declared.Way.the-variants.{Fc}
@@ -32,25 +31,7 @@ use Rattle.looking_ahead.specs.Ahead.{LivesAfter}
 use Rattle.planner.specs.declared.labelled.Labelled.the-variants.{Passed as LPassed, Spent as LSpent, OutOfChecks as LChecks, OutOfTrials as LTrials}
 use Rattle.planner.specs.Memory.{Kept, atBoat}
 use Rattle.planner.specs.Moves.{aheadWay, Labels}
-
--- ---- the sets of the boats, over other words: those of boat i, whose set is s, ..
-words-stay : (w u : List ℕ) (i s : ℕ) → word u (64 + i) ≡ s → ((k : ℕ) → k < i → word u (64 + k) ≡ word w (64 + k)) → setWords w i s ≡ setWords u i (word u (64 + i))
-words-stay w u i s e below = fun-ext (λ k. by k (decLt k i))
-  where
-    by : (k : ℕ) → Dec (k < i) → setWords w i s k ≡ setWords u i (word u (64 + i)) k
-    by k (yes y) = rw (lt-ltb k i y, below k y, e)
-    by k (no y) = rw (le-ltb k i (omega arith), e)
-
--- .. and of the boat after it, whose set is empty
-words-next : (w u : List ℕ) (i s : ℕ) → word u (64 + i) ≡ s → word u (64 + suc i) ≡ 0 → ((k : ℕ) → k < i → word u (64 + k) ≡ word w (64 + k)) →
-    setWords w i s ≡ setWords u (suc i) (word u (64 + suc i))
-words-next w u i s e z below = fun-ext (λ k. by k (decLt k i) (ℕ-discrete k i) (ℕ-discrete k (suc i)))
-  where
-    by : (k : ℕ) → Dec (k < i) → Dec (k ≡ i) → Dec (k ≡ suc i) → setWords w i s k ≡ setWords u (suc i) (word u (64 + suc i)) k
-    by k (yes y) f g = rw (ne-eqb k i (omega arith), ne-eqb k (suc i) (omega arith), lt-ltb k i y, lt-ltb k (suc i) (omega arith), below k y)
-    by k (no y) (yes f) g = rw (f, eq-eqb i i refl, ne-eqb i (suc i) (omega arith), lt-ltb i (suc i) (omega arith), e)
-    by k (no y) (no f) (yes g) = rw (ne-eqb k i f, le-ltb k i (omega arith), eq-eqb k (suc i) g, z)
-    by k (no y) (no f) (no g) = rw (ne-eqb k i f, le-ltb k i (omega arith), ne-eqb k (suc i) g, le-ltb k (suc i) (omega arith))
+use Rattle.planner.proofs.Put.{sets-stay, sets-next, lower-stays, lower-next, put, put-long, put-plan, put-slot, put-own, put-next, put-other, put-only}
 
 -- ---- what is to come, over other words
 -- the set that a visit begins with
@@ -110,45 +91,6 @@ kept-again true t w u i j k f l = (f .0, f .1, f .2, f .3, l (k .4))
 pub begun-small : (jumps : Bool) (t : Tables) (w : List ℕ) (i s : ℕ) → Begun jumps w i s → Kept (aheadWay jumps) t w i → s < 2 ^ i
 begun-small false t w i s g k = rw g (pow-pos i)
 begun-small true t w i s g k = rw g (k .4 i (le-refl i))
-
--- ---- the stores
-abbrev pub put : List ℕ → (i b s : ℕ) → List ℕ
-put v i b s = set (set (set v i b) (64 + i) s) (65 + i) 0
-
-pub put-long : (v : List ℕ) (i b s : ℕ) → length (put v i b s) ≡ length v
-put-long v i b s = simp length-set
-
-module _ (v : List ℕ) (i b s : ℕ) (li : i < 64) (room : 8192 ≤ length v) where
-  put-plan : take (suc i) (put v i b s) ≡ take i v ++ (b ∷ [])
-  put-plan =
-      take-set-le (suc i) (set (set v i b) (64 + i) s) (65 + i) 0 (omega arith)
-      ∙ take-set-le (suc i) (set v i b) (64 + i) s (omega arith)
-      ∙ take-suc-set v i b (omega arith)
-
-  put-slot : word (put v i b s) i ≡ b
-  put-slot =
-      getD-set-other (set (set v i b) (64 + i) s) (65 + i) i 0 0 (omega arith)
-      ∙ getD-set-other (set v i b) (64 + i) i s 0 (omega arith)
-      ∙ getD-set-same v i b 0 (omega arith)
-
-  put-set : word (put v i b s) (64 + i) ≡ s
-  put-set =
-      getD-set-other (set (set v i b) (64 + i) s) (65 + i) (64 + i) 0 0 (omega arith)
-      ∙ getD-set-same (set v i b) (64 + i) s 0 (omega (arith, length-set v i b))
-
-  put-next : word (put v i b s) (65 + i) ≡ 0
-  put-next = getD-set-same (set (set v i b) (64 + i) s) (65 + i) 0 0 (omega (arith, length-set (set v i b) (64 + i) s, length-set v i b))
-
-  put-other : (k : ℕ) → (k ≡ i → ⊥) → (k ≡ 64 + i → ⊥) → (k ≡ 65 + i → ⊥) → word (put v i b s) k ≡ word v k
-  put-other k x y z =
-      getD-set-other (set (set v i b) (64 + i) s) (65 + i) k 0 0 z
-      ∙ getD-set-other (set v i b) (64 + i) k s 0 y
-      ∙ getD-set-other v i k b 0 x
-
-  put-only : Only 0 8192 v (put v i b s)
-  put-only =
-      only-trans (only-set v i b (omega arith) (omega arith))
-      (only-trans (only-set (set v i b) (64 + i) s (omega arith) (omega arith)) (only-set (set (set v i b) (64 + i) s) (65 + i) 0 (omega arith) (omega arith)))
 
 -- ---- a visit of boat i from slot a on has gone from the words w to v, and answers r
 pub record AfterVisit (t : Tables) (w : List ℕ) (i : ℕ) (jumps : Bool) (a s : ℕ) (m : Counts) (v : List ℕ) (r : Visited) : Type 0 where
@@ -218,11 +160,7 @@ module _ {t : Tables} {w : List ℕ} {i : ℕ} {jumps : Bool} {a s : ℕ} {m : C
     spent-lives = subst (λ (y : Visited). LivesAfter t w i v y) e (c .lives)
 
     stored-lower : Lower w i → Lower stored i
-    stored-lower l q lq = by (ℕ-discrete q i)
-      where
-        by : Dec (q ≡ i) → word stored (64 + q) < 2 ^ q
-        by (yes f) = rw (f, stored-set) (spent-visits .0)
-        by (no f) = rw (stored-below (64 + q) (omega arith)) (l q lq)
+    stored-lower = lower-stays w stored i x stored-set (λ q lq. stored-below (64 + q) (omega arith)) (spent-visits .0)
 
     stored-kept : Kept Fc t stored i
     stored-kept = (
@@ -240,7 +178,7 @@ module _ {t : Tables} {w : List ℕ} {i : ℕ} {jumps : Bool} {a s : ℕ} {m : C
           kept = kept-again jumps t w stored i i (c .kept) stored-kept stored-lower;
           leads = subst₂ (λ (y z : Search). Leads m y k z) at-first
               (stay-here t (aheadByPlan t) w stored i jumps (size (t .sizes) i) x stored-plan
-              (words-stay w stored i x stored-set (λ q lq. stored-below (64 + q) (omega arith)))
+              (sets-stay w stored i x stored-set (λ q lq. stored-below (64 + q) (omega arith)))
               ∙ at-here t stored i (size (t .sizes) i) jumps)
               (spent-visits .1);
         }
@@ -271,23 +209,16 @@ module _ {t : Tables} {w : List ℕ} {i : ℕ} {jumps : Bool} {a s : ℕ} {m : C
     ends-slot = ends i (omega arith) ∙ put-slot v i b x small room-after
 
     ends-set : word u (64 + i) ≡ x
-    ends-set = ends (64 + i) (omega (arith, small)) ∙ put-set v i b x small room-after
+    ends-set = ends (64 + i) (omega (arith, small)) ∙ put-own v i b x small room-after
 
     ends-next : word u (64 + suc i) ≡ 0
-    ends-next =
-        let z : 64 + suc i ≡ 65 + i = omega arith in
-        ap (word u) z ∙ ends (65 + i) (omega (arith, small)) ∙ put-next v i b x small room-after
+    ends-next = ends (64 + suc i) (omega (arith, small)) ∙ put-next v i b x small room-after
 
     ends-sets : (q : ℕ) → q < i → word u (64 + q) ≡ word w (64 + q)
     ends-sets q l = ends-other (64 + q) (omega (arith, small)) (omega arith) (omega arith) (omega (arith, small)) ∙ below (64 + q) (omega (arith, small))
 
     ends-lower : Lower w i → Lower u (suc i)
-    ends-lower l q lq = by (decLt q i) (ℕ-discrete q i)
-      where
-        by : Dec (q < i) → Dec (q ≡ i) → word u (64 + q) < 2 ^ q
-        by (yes y) f = rw (ends-sets q y) (l q (omega arith))
-        by (no y) (yes f) = rw (f, ends-set) (passed-visits .2)
-        by (no y) (no f) = let g : q ≡ suc i = omega arith in rw (g, ends-next) (pow-pos (suc i))
+    ends-lower = lower-next w u i x ends-set ends-sets ends-next (passed-visits .2)
 
     ends-placed : Placed t u (suc i)
     ends-placed h l = by (ℕ-discrete h i)
@@ -320,9 +251,9 @@ module _ {t : Tables} {w : List ℕ} {i : ℕ} {jumps : Bool} {a s : ℕ} {m : C
           from = passed-visits .0;
           inside = passed-visits .1;
           placed = ends-plan;
-          only = only-trans whole (only-trans (put-only v i b x small room-after) (only-widen (omega arith) (omega arith) o));
+          only = only-trans whole (only-trans (only-widen (omega arith) (omega arith) (put-only v i b x small room-after)) (only-widen (omega arith) (omega arith) o));
           kept = kept-again jumps t w u i (suc i) (c .kept) ends-kept ends-lower;
           leads = subst₂ (λ (y z : Search). Leads m y k z) at-first
-              (next-here t (aheadByPlan t) w u i jumps b x ends-plan (words-next w u i x ends-set ends-next ends-sets) ∙ at-here t u (suc i) 0 jumps)
+              (next-here t (aheadByPlan t) w u i jumps b x ends-plan (sets-next w u i x ends-set ends-sets ends-next) ∙ at-here t u (suc i) 0 jumps)
               (passed-visits .3);
         }

@@ -27,7 +27,7 @@ use Rattle.tables.proofs.Laws.{fine-none, gives-first, large-gives}
 use Rattle.tables.proofs.Judging.{after-none, gives-before}
 use Rattle.events.specs.Allowances.{cut}
 use Rattle.methods.specs.Methods.{searchBy}
-use Rattle.planner.specs.Runs.{notOneToFive, refusalOfRun, Result, refusedResult, finishedResult, finishedBy, unlessRefused, runResult}
+use Rattle.planner.specs.Runs.{notOneToFive, refusalOfRun, refusedResult, finishedResult, finishedBy, unlessRefused, runResult}
 
 -- a method number is one of the five, or is refused
 pub known-passes : (n : ℕ) (way : Method) → wayOf n ≡ Way way → notOneToFive n ≡ false

@@ -15,7 +15,7 @@ use Rattle.events.specs.declared.Counts.{Counts}
 use Rattle.events.specs.Counts.{Fits, cutAt, Leads}
 use Rattle.events.proofs.Leading.{leads-eq, leads-trans}
 use Rattle.methods.specs.Choices.{choices}
-use Rattle.methods.specs.Machine.{nowhere, back, stop, next, step, onward, searchFrom, search}
+use Rattle.methods.specs.Machine.{nowhere, stop, next, onward, searchFrom, search}
 use Rattle.methods.proofs.Falling.{search-step, aheadOf, forward-falls, return-falls}
 use Rattle.methods.proofs.Runs.{step-end, step-out, step-back}
 use Rattle.words.specs.Layout.{word, Only, Placed}

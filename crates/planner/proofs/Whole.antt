@@ -13,7 +13,6 @@ use Rattle.problem.specs.declared.Answer.{Answer}
 use Rattle.problem.specs.declared.Answer.the-variants.{Solved, NoPlan, Undecided, Refused}
 use Rattle.problem.specs.declared.Allowance.the-variants.{Checks, Trials}
 use Rattle.problem.specs.declared.Reply.{Reply}
-use Rattle.events.specs.Events.{Search}
 use Rattle.events.specs.Allowances.{Outcome, cut}
 use Rattle.events.specs.declared.Counts.{Counts}
 use Rattle.events.specs.Counts.{fresh, cutAt}
@@ -28,7 +27,7 @@ use Rattle.words.proofs.Only.{only-drop}
 use Rattle.words.proofs.Zeroed.{zeroed-later, zeroed-same}
 use Rattle.planner.specs.Memory.{methodBy}
 use Rattle.planner.specs.Searches.{decisionOf, outcomeOf, Searched}
-use Rattle.planner.specs.Runs.{Result, decisionTold, written, finishedResult, resultOf}
+use Rattle.planner.specs.Runs.{decisionTold, written, finishedResult, resultOf}
 
 -- the form that the code follows makes the events of the method as it is defined
 search-by : (way : Way) (t : Tables) → search t (methodBy way t) ≡ searchBy way t

@@ -16,7 +16,7 @@ use Rattle.tables.specs.Examination.{badPair, badWord, pairOfWord, examination,
 use Rattle.events.specs.Events.{noPlan}
 use Rattle.events.specs.Allowances.{Outcome, outcome, decided, cut}
 use Rattle.methods.specs.Methods.{searchBy}
-use Rattle.methods.specs.Cases.{ample, comesOf, case, D, E, planOfE}
+use Rattle.methods.specs.Cases.{ample, comesOf, D, E, planOfE}
 use Rattle.words.specs.Layout.{word}
 use Rattle.words.proofs.Zeroed.{zeroed-at}
 use Rattle.planner.specs.Runs.{Result, finishedResult, runResult}

@@ -8,7 +8,8 @@ use native.Mathlib.Omega.{arith}
 use lib.ListN.{length, length-set}
 use Rattle.problem.specs.Tables.{Tables}
 use Rattle.words.specs.Layout.{tables}
-use Rattle.planner.proofs.PutAhead.{Begun, begun-steps, begun-jumps, begun-small, kept-plain, put-long, AfterVisit, ahead-checks, ahead-trials, ahead-spent, ahead-passed}
+use Rattle.planner.proofs.Put.{put-long}
+use Rattle.planner.proofs.PutAhead.{Begun, begun-steps, begun-jumps, begun-small, kept-plain, AfterVisit, ahead-checks, ahead-trials, ahead-spent, ahead-passed}
 use Rattle.planner.proofs.label.label_ahead.Statement.{statement}
 use Rattle.planner.proofs.label.label_ahead.Tie as tie
 

@@ -20,7 +20,7 @@ use Rattle.events.specs.Allowances.{outcome, decided}
 use Rattle.events.specs.Events.{solved}
 use Rattle.methods.specs.Machine.{search as searchBy}
 use Rattle.methods.proofs.Falling.{aheadOf}
-use Rattle.words.specs.Layout.{tables, word, Only, Placed}
+use Rattle.words.specs.Layout.{tables, Only, Placed}
 use Rattle.words.specs.declared.Unlabelled.{Unlabelled}
 use Rattle.words.proofs.Only.{only-refl, only-trans}
 use Rattle.planner.specs.declared.labelled.Labelled.the-variants.{Passed, Spent, OutOfChecks, OutOfTrials}
