@@ -7,9 +7,9 @@
  *           slot b of the higher boat may stand with it; a forbidden slot's bit is 0
  *
  * What a caller owes, in every call: each part is valid for its length (for writing too, where it
- * is not const), words are aligned as uint64_t, and no part that is written (plan, work) overlaps
- * another part of the call. NULL may be given where the length is 0. Nothing else is owed: whatever
- * the parts hold, a call ends, and what is wrong with them is refused by number and place.
+ * is not const), words are aligned as uint64_t, no part overlaps another, and nobody else changes
+ * them meanwhile. NULL may be given where the length is 0. Nothing else is owed: whatever the parts
+ * hold, a call ends, and what is wrong with them is refused by number and place.
  */
 #ifndef HARBOUR_H
 #define HARBOUR_H
