@@ -2,15 +2,16 @@
 use mathlib.Core.Path.{_≡_, ap, _∙_}
 use mathlib.Core.Logic.{_⊎_, inl, inr}
 use mathlib.Core.List.{List}
-use Prim.Native.Nat.{ℕ, _+_, _≤_, _<_, min}
+use Prim.Native.Nat.{ℕ, zero, suc, _+_, _-_, _≤_, _<_, min}
 use native.Mathlib.Nat.{eq-or-lt-of-le}
 use native.Mathlib.Omega.{arith}
+use native.Mathlib.Decide.{decLt}
 use lib.ListN.{length, set}
 use lib.Seq.{getD-set-same, getD-set-other}
 use Rattle.methods.specs.BM.{lowered}
 use Rattle.words.specs.Layout.{word, Only, Zero}
 use Rattle.words.proofs.Only.{only-refl, only-trans, only-set, only-widen}
-use Rattle.marking.specs.Marks.{marksOf}
+use Rattle.marking.specs.Marks.{marksOf, Falling}
 use Rattle.marking.proofs.Marking.{lowered-words}
 
 -- those of the boats above i and below j are lowered to h
@@ -37,12 +38,37 @@ module _ (i h j : ℕ) (w w′ : List ℕ) (lj : i < j) (x : Lowering i h j w w�
       by k l (inl f) = rw f e
       by k l (inr m) = o .others (64 + k) (inl (omega arith)) ∙ x .done k l m
 
-  pub lowering-kept : word w′ (64 + j) ≤ h → Lowering i h (j + 1) w w′
-  lowering-kept l = more w′ (only-refl _ _ w′) (omega (arith, same-word))
-
   pub lowering-set : h < word w′ (64 + j) → 64 + j < length w′ → Lowering i h (j + 1) w (set w′ (64 + j) h)
   lowering-set l m =
       more (set w′ (64 + j) h) (only-set w′ (64 + j) h (omega arith) (omega arith)) (getD-set-same w′ (64 + j) h 0 m ∙ omega (arith, same-word))
+
+-- where b of one boat after i is not above h, neither is that of any boat after it
+falling-on : (h : ℕ) (w : List ℕ) (i j r : ℕ) → Falling w i → i < j → j + r < 64 → word w (64 + j) ≤ h → word w (64 + (j + r)) ≤ h
+falling-on h w i j zero f l s e = let z : 64 + (j + 0) ≡ 64 + j = omega arith in rw z e
+falling-on h w i j (suc r) f l s e =
+    let z : 64 + (j + suc r) ≡ 65 + (j + r) = omega arith in
+    rw z (omega (arith, f (j + r) (omega arith) (omega arith), falling-on h w i j r f l (omega arith) e))
+
+-- the first that is not above h ends it: so are all after it
+pub lowering-ends : (i h j n : ℕ) (w w′ : List ℕ) → i < j → j ≤ n → n ≤ 64 → Falling w i → Lowering i h j (set w (64 + i) h) w′ → word w′ (64 + j) ≤ h →
+    Lowering i h n (set w (64 + i) h) w′
+lowering-ends i h j n w w′ lj ln few f x e =
+    record {
+      only = only-widen (omega arith) (omega arith) (x .only);
+      done = λ k l m. by k l m (decLt k j);
+    }
+  where
+    -- a boat not yet lowered has its word still
+    still : (k : ℕ) → j ≤ k → word w′ (64 + k) ≡ word w (64 + k)
+    still k l = x .only .others (64 + k) (inr (omega arith)) ∙ getD-set-other w (64 + i) (64 + k) h 0 (λ z. omega arith)
+
+    by : (k : ℕ) → i < k → k < n → Dec (k < j) → word w′ (64 + k) ≡ min (word (set w (64 + i) h) (64 + k)) h
+    by k l m (yes y) = x .done k l y
+    by k l m (no y) =
+        let z : j + (k - j) ≡ k = omega arith in
+        let low : word w (64 + (j + (k - j))) ≤ h = falling-on h w i j (k - j) f lj (omega arith) (rw (← (still j (omega arith))) e) in
+        let here : word w (64 + k) ≤ h = rw z at low in
+        still k (omega arith) ∙ rw (getD-set-other w (64 + i) (64 + k) h 0 (λ z. omega arith)) (omega (arith, here))
 
 -- all later boats are lowered, and boat i was first
 module _ (n i h : ℕ) (w w′ : List ℕ) (li : i < n) (x : Lowering i h n (set w (64 + i) h) w′) where
@@ -51,6 +77,6 @@ module _ (n i h : ℕ) (w w′ : List ℕ) (li : i < n) (x : Lowering i h n (set
       only-trans (only-set w (64 + i) h (omega arith) (omega arith)) (only-widen (omega arith) (omega arith) (x .only))
 
   pub lowering-all : n ≤ 64 → 64 + i < length w → Zero (64 + n) 128 w → marksOf w′ ≡ lowered (marksOf w) i h
-  lowering-all ln long zero =
-      lowered-words w w′ n i h li ln zero lowering-only (x .only .others (64 + i) (inl (omega arith)) ∙ getD-set-same w (64 + i) h 0 long)
+  lowering-all ln long none =
+      lowered-words w w′ n i h li ln none lowering-only (x .only .others (64 + i) (inl (omega arith)) ∙ getD-set-same w (64 + i) h 0 long)
       (λ k l m. x .done k l m ∙ ap (λ (v : ℕ). min v h) (getD-set-other w (64 + i) (64 + k) h 0 (λ e. omega arith)))

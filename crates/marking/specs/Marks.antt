@@ -25,6 +25,10 @@ marksOf w =
       b = λ i. cond (ltb i 64) (word w (64 + i)) 0;
     }
 
+-- b never rises from a boat after i to the next
+abbrev pub Falling : List ℕ → (i : ℕ) → Type 0
+Falling w i = (j : ℕ) → i < j → j < 63 → word w (65 + j) ≤ word w (64 + j)
+
 -- what is to come at boat i under the words w, from slot a on
 abbrev pub hereMarked : Tables → List ℕ → (i a : ℕ) → Search
 hereMarked t w i a = searchFrom t (bm t) (take i w) a (marksOf w)

@@ -6,7 +6,7 @@ ghost use Rattle.problem.specs.Sane.{Sane};
 ghost use Rattle.events.specs.Counts.{Fits};
 ghost use Rattle.methods.specs.BM.{lowered};
 ghost use Rattle.words.specs.Layout.{tables, Only, Zero, Placed, Indexed};
-ghost use Rattle.marking.specs.Marks.{marksOf, VisitsMarked};
+ghost use Rattle.marking.specs.Marks.{marksOf, Falling, VisitsMarked};
 ghost use Rattle.marking.specs.Looks.{LooksFrom};
 use events::Counted;
 use events::Counts;
@@ -103,19 +103,20 @@ pub fn visit(
     Visited::Spent(0, counts)
 }
 
-// Going back from boat i to h, the boat before: b of i becomes h, and that of each later boat h where it was greater.
+// Going back from boat i to h, the boat before: b of i becomes h, and that of each later boat h where it was greater. As b never rises after i, the first that is not greater ends it.
 pub fn lower(n: usize, i: usize, h: usize, work: &mut [u64])
     requires { ⌜ (i < n) × (n ≤ 64) × (h < 64) × (8192 ≤ length (now work)) ⌝ }
-    requires { ⌜ Zero (64 + n) 128 (now work) ⌝ }
+    requires { ⌜ Zero (64 + n) 128 (now work) × Falling (now work) i ⌝ }
     ensures { λ _. ⌜ marksOf (now (work .exit)) ≡ lowered (marksOf (now (work .entry))) i h ⌝ }
     ensures { λ _. ⌜ Only (64 + i) (64 + n) (now (work .entry)) (now (work .exit)) ⌝ }
 {
     work[64 + i] = h as u64;
     let mut j = i + 1;
     while j < n {
-        if (h as u64) < work[64 + j] {
-            work[64 + j] = h as u64;
+        if work[64 + j] <= h as u64 {
+            return;
         }
+        work[64 + j] = h as u64;
         j += 1;
     }
 }

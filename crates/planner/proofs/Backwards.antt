@@ -1,12 +1,14 @@
 -- The way back: what is known of the words at a boat is known at each boat before it, and stays where only the sets or marks changed;
 -- the moves that go back by one boat. Assumes nothing.
 use mathlib.Core.Path.{_≡_, refl, sym, ap, _∙_, subst}
-use mathlib.Core.Bool.{Bool, _&&_, and-true}
+use mathlib.Core.Bool.{Bool, cond, _&&_, and-true}
 use mathlib.Core.List.{List}
 use mathlib.Core.Logic.{inr}
-use Prim.Native.Nat.{ℕ, zero, suc, _+_, _-_, _*_, _^_, _≤_, _<_}
+use Prim.Native.Nat.{ℕ, zero, suc, _+_, _-_, _*_, _^_, _≤_, _<_, min}
 use native.Mathlib.Omega.{arith}
-use lib.Dec.{ltb}
+use native.Mathlib.Decide.{ℕ-discrete}
+use borrow.Author.Tests.{eq-eqb, ne-eqb, lt-ltb}
+use lib.Dec.{ltb, eqb}
 use lib.ListN.{length, take}
 use lib.Seq.{length-take-le, take-take}
 use Rattle.problem.specs.Tables.{Tables, boats, size, bit}
@@ -16,7 +18,7 @@ use Rattle.problem.specs.declared.Way.the-variants.{Bt, Bm, Fc}
 use Rattle.methods.specs.Machine.{back}
 use Rattle.methods.specs.Moves.{oneBack}
 use Rattle.methods.specs.BT.{lookingBack}
-use Rattle.methods.specs.BM.{bm, lowered}
+use Rattle.methods.specs.BM.{Marks, bm, lowered}
 use Rattle.methods.proofs.Looking.{may-unlisted}
 use Rattle.methods.proofs.ByPlan.{isOpen, aheadByPlan}
 use Rattle.methods.proofs.Runs.{at}
@@ -24,7 +26,7 @@ use Rattle.words.specs.Layout.{word, Only, Placed, liveAt}
 use Rattle.words.specs.declared.Unlabelled.{Unlabelled}
 use Rattle.words.specs.declared.Unlabelled.the-variants.{Back, NoPlan}
 use Rattle.words.proofs.Only.{only-refl, only-widen, only-take}
-use Rattle.marking.specs.Marks.{marksOf}
+use Rattle.marking.specs.Marks.{marksOf, Falling}
 use Rattle.looking_ahead.specs.Lives.{Lives, Copied}
 use Rattle.looking_ahead.proofs.Words.{bits-same}
 use Rattle.looking_ahead.proofs.Openings.{open-suc}
@@ -141,7 +143,8 @@ module _ {t : Tables} {w : List ℕ} {i : ℕ} (g : Leaving t w i) where
         kept = (
           indexed-stays wide t (omega arith) (q .0),
           placed-stays wide t (i - 1) (omega (arith, left-few)) (placed-back t w (omega arith) (q .1)),
-          λ k lo hi. o .others k (inr lo) ∙ q .2 k lo hi,
+          (λ k lo hi. o .others k (inr lo) ∙ q .2 k lo hi),
+          falls,
         );
         goes =
             ap (λ (n : ℕ). oneBack n (λ h. lowered (marksOf w) n h)) (left-plan ∙ before)
@@ -151,3 +154,19 @@ module _ {t : Tables} {w : List ℕ} {i : ℕ} (g : Leaving t w i) where
     where
       before : i ≡ suc (i - 1)
       before = omega arith
+
+      -- b of a boat below 64, from the marks
+      low : (j : ℕ) → j < 64 → word w′ (64 + j) ≡ cond (eqb j i) (i - 1) (cond (ltb i j) (min (word w (64 + j)) (i - 1)) (word w (64 + j)))
+      low j l = rw (lt-ltb j 64 l) at (ap (λ (σ : Marks). σ .b j) e)
+
+      falls : Falling w′ (i - 1)
+      falls j lo hi = by (ℕ-discrete j i)
+        where
+          next : word w′ (65 + j) ≡ min (word w (65 + j)) (i - 1)
+          next = let z : 64 + suc j ≡ 65 + j = omega arith in rw (ne-eqb (suc j) i (omega arith), lt-ltb i (suc j) (omega arith), z) at (low (suc j) (omega arith))
+
+          by : Dec (j ≡ i) → word w′ (65 + j) ≤ word w′ (64 + j)
+          by (yes f) = let y : word w′ (64 + j) ≡ i - 1 = rw (eq-eqb j i f) at (low j (omega arith)) in omega (arith, next, y)
+          by (no nf) =
+              let y : word w′ (64 + j) ≡ min (word w (64 + j)) (i - 1) = rw (ne-eqb j i nf, lt-ltb i j (omega arith)) at (low j (omega arith)) in
+              omega (arith, next, y, q .3 j (omega arith) hi)

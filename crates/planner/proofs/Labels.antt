@@ -25,7 +25,7 @@ use Rattle.words.specs.Visits.{over, state, here, onward, Visits}
 use Rattle.words.specs.declared.Visited.{Visited}
 use Rattle.words.specs.declared.Visited.the-variants.{Passed, Spent, OutOfChecks, OutOfTrials}
 use Rattle.words.proofs.Only.{only-refl, only-trans, only-set, only-widen, only-take}
-use Rattle.marking.specs.Marks.{marksOf, VisitsMarked}
+use Rattle.marking.specs.Marks.{marksOf, VisitsMarked, Falling}
 use Rattle.marking.proofs.Visits.{Visiting, still-enough, still-placed, still-indexed}
 use Rattle.planner.specs.declared.labelled.Labelled.the-variants.{Passed as LPassed, Spent as LSpent, OutOfChecks as LOutOfChecks, OutOfTrials as LOutOfTrials}
 use Rattle.planner.specs.Memory.{Kept, atBoat}
@@ -147,6 +147,9 @@ module _ (t : Tables) (w w′ : List ℕ) (i a : ℕ) (m : Counts) (x : Visiting
   zero-stays : Zero (64 + boats t) 128 w → Zero (64 + boats t) 128 w′
   zero-stays z k lo hi = x .only .others k (inl (omega arith)) ∙ z k lo hi
 
+  falling-stays : Falling w i → Falling w′ i
+  falling-stays f j lo hi = rw (x .only .others (65 + j) (inl (omega arith)), x .only .others (64 + j) (inl (omega arith))) (f j lo hi)
+
   abbrev VisitMarked : Visited → Type 0
   VisitMarked = VisitsMarked t w i a m w′
 
@@ -167,6 +170,7 @@ module _ (t : Tables) (w w′ : List ℕ) (i a : ℕ) (m : Counts) (x : Visiting
           indexed-stays o t (omega arith) (still-indexed x (y .0)),
           placed-set t w′ i b (omega (arith, few)) (v .1) (still-placed x (y .1)),
           (λ h lo hi. o .others h (inr (omega arith)) ∙ zero-stays (y .2) h lo hi),
+          (λ j lo hi. rw (o .others (65 + j) (inr (omega arith)), o .others (64 + j) (inr (omega arith))) (falling-stays (y .3) j (omega arith) hi)),
         );
         leads =
             subst (Leads m (atBoat Bm t w i a) k)
@@ -178,7 +182,7 @@ module _ (t : Tables) (w w′ : List ℕ) (i a : ℕ) (m : Counts) (x : Visiting
       record {
         same = marked-plan;
         only = marked-only;
-        kept = (still-indexed x (y .0), still-placed x (y .1), zero-stays (y .2));
+        kept = (still-indexed x (y .0), still-placed x (y .1), zero-stays (y .2), falling-stays (y .3));
         leads = rw marked-plan (subst VisitMarked f q);
       }
 

@@ -92,7 +92,7 @@ module _ (t : Tables) {w w′ : List ℕ} (zero : Zero 0 8192 w) (found : Indexe
   unfolding bm
   prepared-bm =
       record {
-        kept = (found, none-placed t w′, λ k lo hi. still k (omega arith));
+        kept = (found, none-placed t w′, (λ k lo hi. still k (omega arith)), λ j lo hi. omega (arith, still (65 + j) (omega arith)));
         fresh = no-marks w′ (λ i l. still (64 + i) (omega arith)) (λ i a li la. later (4096 + 64 * i + a) (omega arith) (omega arith));
         only = back-only;
       }

@@ -14,7 +14,7 @@ use Rattle.methods.proofs.ByPlan.{aheadByPlan}
 use Rattle.words.specs.Layout.{word, Zero, Placed, Indexed, Firsts}
 use Rattle.words.specs.Sets.{setWords, Lower}
 use Rattle.words.specs.Visits.{State, over, state}
-use Rattle.marking.specs.Marks.{marksOf}
+use Rattle.marking.specs.Marks.{marksOf, Falling}
 use Rattle.looking_ahead.specs.Lives.{Lives, Copied}
 
 -- the method in the form that the code follows: looking ahead goes by the plan so far alone
@@ -44,7 +44,7 @@ memory FcCbj w i = state true (setWords w i (word w (64 + i)))
 abbrev pub Kept : Way → Tables → List ℕ → (i : ℕ) → Type 0
 Kept Bt t w i = Indexed t w × Placed t w i
 Kept Cbj t w i = Indexed t w × Placed t w i × Lower w i
-Kept Bm t w i = Indexed t w × Placed t w i × Zero (64 + boats t) 128 w
+Kept Bm t w i = Indexed t w × Placed t w i × Zero (64 + boats t) 128 w × Falling w i
 Kept Fc t w i = Firsts t w × Placed t w i × Lives t w (take i w) i × (i < boats t → Copied t w i)
 Kept FcCbj t w i = Firsts t w × Placed t w i × Lives t w (take i w) i × (i < boats t → Copied t w i) × Lower w i
 

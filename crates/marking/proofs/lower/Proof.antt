@@ -1,11 +1,13 @@
--- The b words of boat i and of the later ones, each once. Assumes nothing.
-use mathlib.Core.Path.{_≡_, sym, _∙_, subst}
-use mathlib.Core.Logic.{⊎-elim}
+-- The b words of boat i and of the later ones, up to the first that is low enough. Assumes nothing.
+use mathlib.Core.Path.{_≡_, _∙_, subst}
 use Prim.Native.Nat.{ℕ, _+_, _-_, _≤_, _<_}
 use borrow.Author.Needs.{needs}
 use native.Mathlib.Omega.{arith}
 use lib.ListN.{length, set, length-set}
-use Rattle.marking.proofs.Lowering.{Lowering, lowering-none, lowering-kept, lowering-set, lowering-only, lowering-all}
+use Rattle.words.specs.Layout.{word, Only}
+use Rattle.methods.specs.BM.{lowered}
+use Rattle.marking.specs.Marks.{marksOf}
+use Rattle.marking.proofs.Lowering.{Lowering, lowering-none, lowering-set, lowering-ends, lowering-only, lowering-all}
 use Rattle.marking.proofs.lower.Statement.{statement}
 use Rattle.marking.proofs.lower.Tie as tie
 
@@ -18,6 +20,17 @@ abbrev μ-loop : tie.MeasureT-loop
 -- the words are as many as at the entry
 same : (c : tie.At-loop Inv-loop μ-loop) → length (c .loop .work) ≡ length (c .before .args .work .now)
 same c = c .loop .inv .2 .only .long ∙ simp length-set
+
+-- all that is promised, once no later boat is left
+done : (c : tie.At-loop Inv-loop μ-loop) → let a = c .before .args in
+    Lowering (a .i) (a .h) (a .n) (set (a .work .now) (64 + a .i) (a .h)) (c .loop .work) →
+    (marksOf (c .loop .work) ≡ lowered (marksOf (a .work .now)) (a .i) (a .h)) × Only (64 + a .i) (64 + a .n) (a .work .now) (c .loop .work)
+done c y =
+    let a = c .before .args in
+    let p = c .before .pre in (
+      lowering-all (a .n) (a .i) (a .h) (a .work .now) (c .loop .work) (p .0 .0) y (p .0 .1) (omega (arith, p .0)) (p .1 .0),
+      lowering-only (a .n) (a .i) (a .h) (a .work .now) (c .loop .work) (p .0 .0) y,
+    )
 
 add-work : tie.Need-add-work Inv-loop μ-loop
 add-work c = search needs
@@ -43,6 +56,16 @@ mul-if1 c = search needs
 slice-read-if1 : tie.Need-slice-read-if1 Inv-loop μ-loop
 slice-read-if1 c = omega (arith, same (c .before .before), c .before .before .before .pre)
 
+same-length : tie.Need-same-length Inv-loop μ-loop
+same-length c = same (c .before .before .before)
+
+returns : tie.Need-returns Inv-loop μ-loop
+returns c =
+    let l = c .before .before .before in
+    let x = l .loop .inv in
+    let p = l .before .pre in
+    done l (lowering-ends _ _ _ _ (l .before .args .work .now) _ (x .0) (x .1) (p .0 .1) (p .1 .1) (x .2) (c .if1 .taken))
+
 add-work-2 : tie.Need-add-work-2 Inv-loop μ-loop
 add-work-2 c = search needs
 
@@ -61,27 +84,19 @@ loop-less c = search needs
 loop-again : tie.Need-loop-again Inv-loop μ-loop
 loop-again c =
     let l = c .before .before .before in
-    let x = l .loop .inv in (
-      omega arith,
-      omega arith,
-      ⊎-elim
-          (λ w. subst (Lowering _ _ _ _) (sym (w .1)) (lowering-set _ _ _ _ _ (x .0) (x .2) (w .0 .taken) (omega (arith, same l, l .before .pre))))
-          (λ w. subst (Lowering _ _ _ _) (sym (w .1)) (lowering-kept _ _ _ _ _ (x .0) (x .2) (w .0 .left)))
-          (c .if1 .came),
-    )
+    let x = l .loop .inv in
+    (omega arith, omega arith, lowering-set _ _ _ _ _ (x .0) (x .2) (c .if1 .left) (omega (arith, same l, l .before .pre)))
 
-same-length : tie.Need-same-length Inv-loop μ-loop
-same-length c = same (c .before)
+same-length-2 : tie.Need-same-length-2 Inv-loop μ-loop
+same-length-2 c = same (c .before)
 
-returns : tie.Need-returns Inv-loop μ-loop
-returns c =
+returns-2 : tie.Need-returns-2 Inv-loop μ-loop
+returns-2 c =
     let l = c .before in
     let x = l .loop .inv in
     let a = l .before .args in
     let e : l .loop .j ≡ a .n = omega arith in
-    let short : 64 + a .i < length (a .work .now) = omega arith in
-    let y = subst (λ (j : ℕ). Lowering (a .i) (a .h) j (set (a .work .now) (64 + a .i) (a .h)) (l .loop .work)) e (x .2) in
-    (lowering-all (a .n) (a .i) (a .h) (a .work .now) (l .loop .work) (l .before .pre .0 .0) y (l .before .pre .0 .1) short (l .before .pre .1), lowering-only (a .n) (a .i) (a .h) (a .work .now) (l .loop .work) (l .before .pre .0 .0) y)
+    done l (subst (λ (j : ℕ). Lowering (a .i) (a .h) j (set (a .work .now) (64 + a .i) (a .h)) (l .loop .work)) e (x .2))
 
 pub lower-spec : {M : Type 1} → statement M
 lower-spec =
@@ -97,11 +112,13 @@ lower-spec =
     add-if1
     mul-if1
     slice-read-if1
+    same-length
+    returns
     add-work-2
     mul-work-2
     slice-write-work-2
     add-j-2
     loop-less
     loop-again
-    same-length
-    returns)
+    same-length-2
+    returns-2)
