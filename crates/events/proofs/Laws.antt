@@ -5,6 +5,7 @@ use mathlib.Core.List.{List, [], _∷_, _++_, append-nil}
 use Prim.Native.Nat.{ℕ, _≤_}
 use native.Mathlib.Nat.{zero-add}
 use native.Mathlib.Omega.{arith}
+use lib.ListN.{take, drop, take-append-drop}
 use Rattle.problem.specs.declared.Allowance.the-variants.{Checks, Trials}
 use Rattle.events.specs.Events.{Event, trial, check, Ending, Search, trials, checks}
 use Rattle.events.specs.Allowances.{Decision, decided, undecided, outcome, cutFrom, cut}
@@ -106,6 +107,12 @@ module _ (ca ta : ℕ) (s : Search) where
       by (decided r) w = omega arith
       by (undecided Checks) w = omega arith
       by (undecided Trials) w = omega arith
+
+  -- a search that is taken up again after its first k events, with their counts, comes to the outcome of the whole search
+  pub resumed : (k : ℕ) → checks (take k (s .events)) ≤ ca → trials (take k (s .events)) ≤ ta →
+      cut ca ta s ≡ cutFrom ca ta (checks (take k (s .events))) (trials (take k (s .events))) (drop k (s .events)) (s .ending)
+  unfolding cut
+  resumed k p q = rw take-append-drop at (past (take k (s .events)) (drop k (s .events)) p q)
 
 -- raising an allowance never changes a decision or its counts
 pub raising : (ca ta ca' ta' : ℕ) (s : Search) (r : Ending) → ca ≤ ca' → ta ≤ ta' → cut ca ta s .decision ≡ decided r → cut ca' ta' s ≡ cut ca ta s

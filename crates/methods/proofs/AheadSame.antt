@@ -20,7 +20,7 @@ use Rattle.methods.proofs.SameMoves.{SameVerdict, both-pass, both-fail,
 module _ (t : Tables) where
   -- the two moves, as long as the strikes know the plan so far
   pub ahead-twins : Twins t (lookingAhead t) (aheadByPlan t) (λ p s σ. Struck t p s)
-  unfolding lookingAhead aheadByPlan
+  unfolding lookingAhead aheadByPlan endOfSweep
   ahead-twins =
       record {
         begin = struck-start t;

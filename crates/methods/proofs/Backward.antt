@@ -1,5 +1,5 @@
 -- Looking back is an honest forward move: a choice that it fails is barred by the boat to blame, and one that it passes is allowed by all. Assumes nothing.
-use mathlib.Core.Path.{_≡_, refl, sym, _∙_, subst}
+use mathlib.Core.Path.{_≡_, refl, sym, ap, _∙_, subst}
 use mathlib.Core.Bool.{false}
 use mathlib.Core.List.{List}
 use mathlib.Core.Option.{Option, none, some}
@@ -14,6 +14,7 @@ use Rattle.methods.specs.Moves.{Boats, only, pass, fail}
 use Rattle.methods.specs.BT.{lookBack, blameFailing, lookingBack}
 use Rattle.methods.proofs.Runs.{at}
 use Rattle.methods.proofs.Sound.{Bars, Honest}
+use Rattle.methods.proofs.Members.{Judged, BlamesPlaced}
 use Rattle.methods.proofs.Looking.{refuser, failing-is, refuser-some, refuser-none}
 
 -- what a verdict says of the failing boat
@@ -66,3 +67,12 @@ module _ (t : Tables) where
         failed = λ p a s f lp la e v. back-failed p a s lp v;
         passed = λ p a f lp la e v. back-passed p a v;
       }
+
+  -- and the boats that it blames are placed
+  pub back-placed : BlamesPlaced (lookingBack t) (λ p σ. Unit {0})
+  unfolding lookingBack
+  back-placed = record { begin = tt; judged = λ p a σ k. by p a _ refl; blamed = λ p σ k j x. absurd x; kept = λ p h σ k lh. tt }
+    where
+      by : (p : List ℕ) (a : ℕ) (x : Option ℕ) → lookBack t (length p) a 0 p .failing ≡ x → Judged (lookingBack t) (λ p σ. Unit {0}) p a (blameFailing x)
+      by p a none e = tt
+      by p a (some h) e = back-below p a (only h) (ap blameFailing e)

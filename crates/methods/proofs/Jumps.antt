@@ -1,9 +1,9 @@
 -- The jumping method over an honest forward move is justified: what conflict sets know. Assumes nothing.
-use mathlib.Core.Path.{_≡_, refl, sym, _∙_, ap}
+use mathlib.Core.Path.{_≡_, refl, _∙_}
 use mathlib.Core.Bool.{true, false, _||_}
 use mathlib.Core.List.{List, [], _∷_, _++_}
-use mathlib.Core.Logic.{_≢_, _⊎_, inl, inr}
-use mathlib.Core.Option.{Option, none, some}
+use mathlib.Core.Logic.{_⊎_, inl, inr}
+use mathlib.Core.Option.{none, some}
 use Prim.Native.Nat.{ℕ, suc, _≤_, _<_}
 use native.Mathlib.Omega.{arith}
 use native.Mathlib.Decide.{decLt, ℕ-discrete}
@@ -13,31 +13,18 @@ use lib.ListN.{length, take, length-append}
 use lib.Seq.{take-append-le, take-append-seam, length-take-le, take-take}
 use Rattle.problem.specs.Tables.{Tables, boats}
 use Rattle.methods.specs.Choices.{choices}
-use Rattle.methods.specs.Machine.{nowhere, back}
 use Rattle.methods.specs.Moves.{Boats, Verdict, pass, fail, passes, Forward}
-use Rattle.methods.specs.CBJ.{Sets, Jumping, blamed, deepest, handedDown, jump, toBlame, jumping}
+use Rattle.methods.specs.CBJ.{Sets, Jumping, blamed, deepest, handedDown, toBlame, jumping}
 use Rattle.methods.proofs.Runs.{at, at-take, at-snoc, at-last}
 use Rattle.methods.proofs.Standing.{Stands, Fit, fit-take}
 use Rattle.methods.proofs.Sound.{Bars, bars-more, Honest, Justified, verdict-pass}
-use Rattle.methods.proofs.Sets.{or-left, or-right, or-cases, deepest-some, deepest-none, blamed-old, blamed-new, blamed-cases, handed-below, handed-old, handed-new, handed-cases}
-
--- a jump has a target, and the target is the deepest that is to blame
-module _ {S : Type 0} (F : Forward S) (σ : Jumping S) (i : ℕ) (s : Boats) where
-  pub jump-out : (x : Option ℕ) → jump F σ i s x ≡ nowhere → x ≡ none
-  jump-out none e = refl
-  jump-out (some h) e = let z : _≡_ {A = ℕ} 0 1 = cc in absurd (omega arith)
-
-  pub jump-back : (x : Option ℕ) (h : ℕ) (τ : Jumping S) → jump F σ i s x ≡ back h τ → (x ≡ some h) × (τ .sets ≡ handedDown (σ .sets) i h s)
-  jump-back none h τ e = let z : _≡_ {A = ℕ} 0 1 = cc in absurd (omega arith)
-  jump-back (some g) h τ e =
-      let z : g ≡ h = cc in
-      let y : record { sets = handedDown (σ .sets) i g s; rest = F .putBack g (σ .rest) } ≡ τ = cc in
-      (ap some z, ap (λ (u : Jumping S). u .sets) (sym y) ∙ ap (λ (u : ℕ). handedDown (σ .sets) i u s) z)
+use Rattle.methods.proofs.Sets.{or-left, or-right, or-cases, deepest-some, deepest-none, blamed-old, blamed-new, handed-below, handed-old, handed-new, jump-out, jump-back}
+use Rattle.methods.proofs.Members.{MembersBelow, blamed-members, handed-members, toBlame-members}
 
 module _ (t : Tables) (F : Forward (Unit {0})) (H : Honest t F) where
   -- What conflict sets know: a boat's set holds lower boats alone; a choice that was given up is barred by the boat's set and its blamers.
   pub record Knows (p : List ℕ) (a : ℕ) (σ : Jumping (Unit {0})) : Type 0 where
-    pub within : (k j : ℕ) → T (σ .sets k j) → j < k
+    pub within : MembersBelow (σ .sets)
     pub before : (k : ℕ) → k < length p → (b : ℕ) → b < at p k → Bars t (λ j. T (σ .sets k j || F .blamers tt (take k p) j)) p k b
     pub here : (b : ℕ) → b < a → Bars t (λ j. T (toBlame F σ p j)) p (length p) b
 
@@ -58,12 +45,8 @@ module _ (t : Tables) (F : Forward (Unit {0})) (H : Honest t F) where
       by-case (inl y) = K .within k j y
       by-case (inr y) = rw (length-take-le k p (le-of-lt lk)) at (H .blame-below (take k p) j (fit-take t p k f lk) y)
 
-  pub toBlame-below : (p : List ℕ) (a : ℕ) (σ : Jumping (Unit {0})) → Fit t p → Knows p a σ → (j : ℕ) → T (toBlame F σ p j) → j < length p
-  toBlame-below p a σ f K j x = by-case (or-cases (σ .sets (length p) j) (F .blamers tt p j) x)
-    where
-      by-case : T (σ .sets (length p) j) ⊎ T (F .blamers tt p j) → j < length p
-      by-case (inl y) = K .within (length p) j y
-      by-case (inr y) = H .blame-below p j f y
+  toBlame-below : (p : List ℕ) (a : ℕ) (σ : Jumping (Unit {0})) → Fit t p → Knows p a σ → (j : ℕ) → T (toBlame F σ p j) → j < length p
+  toBlame-below p a σ f K = toBlame-members F p σ (K .within) (λ j x. H .blame-below p j f x)
 
   -- ---- one more choice is given up
   knows-slot : (p : List ℕ) (a : ℕ) (σ : Jumping (Unit {0})) → Knows p a σ → Bars t (λ j. T (toBlame F σ p j)) p (length p) a → Knows p (suc a) σ
@@ -81,17 +64,11 @@ module _ (t : Tables) (F : Forward (Unit {0})) (H : Honest t F) where
   -- boats are put into the set of the boat at hand
   knows-more : (p : List ℕ) (a : ℕ) (σ : Jumping (Unit {0})) (s : Boats) → Knows p a σ → ((j : ℕ) → T (s j) → j < length p) → Bars t (λ j. T (s j)) p (length p) a →
       Knows p (suc a) (record { sets = blamed (σ .sets) (length p) {S = Unit {0}} (fail s); rest = tt })
-  knows-more p a σ s K sb B = knows-slot p a (record { sets = new; rest = tt }) (record { within = w; before = bf; here = hr }) last
+  knows-more p a σ s K sb B =
+      knows-slot p a (record { sets = new; rest = tt }) (record { within = blamed-members (σ .sets) (K .within) (length p) s sb; before = bf; here = hr }) last
     where
       new : Sets
       new = blamed (σ .sets) (length p) {S = Unit {0}} (fail s)
-
-      w : (k j : ℕ) → T (new k j) → j < k
-      w k j x = by-case (blamed-cases (σ .sets) (length p) s k j x)
-        where
-          by-case : T (σ .sets k j) ⊎ ((k ≡ length p) × T (s j)) → j < k
-          by-case (inl y) = K .within k j y
-          by-case (inr y) = let z = sb j (y .1) in omega arith
 
       more : (k : ℕ) (c : Boats) (j : ℕ) → T (σ .sets k j || c j) → T (new k j || c j)
       more k c j x = by-case (or-cases (σ .sets k j) (c j) x)
@@ -149,7 +126,12 @@ module _ (t : Tables) (F : Forward (Unit {0})) (H : Honest t F) where
 
     knows-back : choices t (length p) ≤ a → (h : ℕ) → deepest (boats t) (toBlame F σ p) ≡ some h →
         Knows (take h p) (suc (at p h)) (record { sets = handedDown (σ .sets) (length p) h (toBlame F σ p); rest = tt })
-    knows-back sz h e = record { within = w; before = bf; here = λ b lb. rw el (hr b lb (ℕ-discrete b (at p h))) }
+    knows-back sz h e =
+        record {
+          within = handed-members (σ .sets) (K .within) (length p) (toBlame F σ p) h (no-deeper h e);
+          before = bf;
+          here = λ b lb. rw el (hr b lb (ℕ-discrete b (at p h)));
+        }
       where
         new : Sets
         new = handedDown (σ .sets) (length p) h (toBlame F σ p)
@@ -159,17 +141,6 @@ module _ (t : Tables) (F : Forward (Unit {0})) (H : Honest t F) where
 
         el : length (take h p) ≡ h
         el = length-take-le h p (le-of-lt lh)
-
-        w : (k j : ℕ) → T (new k j) → j < k
-        w k j x = by-case (handed-cases (σ .sets) (length p) h (toBlame F σ p) k j x)
-          where
-            at-h : k ≡ h → j ≢ h → T (σ .sets h j) ⊎ T (toBlame F σ p j) → j < k
-            at-h ek ne (inl z) = rw ek (K .within h j z)
-            at-h ek ne (inr z) = let y = no-deeper h e j z in omega arith
-
-            by-case : (((k < h) ⊎ (length p < k)) × T (σ .sets k j)) ⊎ ((k ≡ h) × (j ≢ h) × (T (σ .sets h j) ⊎ T (toBlame F σ p j))) → j < k
-            by-case (inl y) = K .within k j (y .1)
-            by-case (inr y) = at-h (y .0) (y .1) (y .2)
 
         bf : (k : ℕ) → k < length (take h p) → (b : ℕ) → b < at (take h p) k →
             Bars t (λ j. T (new k j || F .blamers tt (take k (take h p)) j)) (take h p) k b

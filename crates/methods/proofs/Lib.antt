@@ -1,11 +1,14 @@
 pub mod Falling
 pub mod Runs
+pub mod Reached
+pub mod Inside
 pub mod Standing
 pub mod Sound
 pub mod Steps
 pub mod Sets
+pub mod Members
 pub mod Jumps
-pub mod Reached
+pub mod JumpRight
 pub mod Cheaper
 pub mod Demands
 pub mod Looking
@@ -14,6 +17,7 @@ pub mod Marks
 pub mod Marked
 pub mod ByPlan
 pub mod Ahead
+pub mod AheadMembers
 pub mod Same
 pub mod Strikes
 pub mod SameMoves

@@ -10,7 +10,6 @@ use Rattle.problem.specs.Tables.{Tables, boats}
 use Rattle.events.specs.Events.{Event, Ending}
 use Rattle.methods.specs.Choices.{choices}
 use Rattle.methods.specs.Machine.{Left, nowhere, back, Method, Step, stop, next, tried, backTo, leave, atChoice, atBoat, atSea, step, search}
-use Rattle.methods.proofs.Reached.{Reached, start, later}
 use Rattle.methods.proofs.Runs.{at, Runs, ends, goes, readied, labelled, runs, from-runs}
 
 -- what the two remember is related by R, at a plan so far and the next choice
@@ -110,16 +109,3 @@ module _ (t : Tables) {S S′ : Type 0} (M : Method S) (N : Method S′) (R : Li
     same-search k =
         let w = from-runs t N (same-runs k (runs t M)) in
         λ i. record { events = sym (w .0) i; ending = sym (w .1) i }
-
-    -- a place that the one reaches, the other reaches too, with a memory that is related
-    pub reached-same : R [] 0 (M .start) (N .start) → {p : List ℕ} {a : ℕ} {σ : S} → Reached t M p a σ → (τ : S′) × Reached t N p a τ × R p a σ τ
-    reached-same k start = (N .start, start, k)
-    reached-same k (later {p = p} {a = a} {σ = σ} {es = es} {p′ = p′} {a′ = a′} {σ′ = σ′} X e) =
-        let w = reached-same k X in
-        by (w .0) (w .1) (step t N p a (w .0)) refl (subst (λ (x : Step S). SameStep R x (step t N p a (w .0))) e (same-step p a σ (w .0) (w .2)))
-      where
-        by : (τ : S′) → Reached t N p a τ → (y : Step S′) → step t N p a τ ≡ y → SameStep R (next es p′ a′ σ′) y → (τ′ : S′) × Reached t N p′ a′ τ′ × R p′ a′ σ′ τ′
-        by τ Y (stop s) f w = absurd w
-        by τ Y (next gs q b τ′) f w =
-            let z : step t N p a τ ≡ next gs p′ a′ τ′ = cc in
-            (τ′, later Y z, w .3)

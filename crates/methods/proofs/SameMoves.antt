@@ -1,6 +1,6 @@
 -- Two forward moves that do the same, whatever each remembers: stepping over them makes the same search, and so does jumping. Assumes nothing.
-use mathlib.Core.Path.{_≡_, refl, ap, ap₂, subst}
-use mathlib.Core.Bool.{true, false, _||_}
+use mathlib.Core.Path.{_≡_, refl, ap, ap₂, subst, fun-ext}
+use mathlib.Core.Bool.{true, false}
 use mathlib.Core.List.{List, [], _∷_, _++_}
 use mathlib.Core.Option.{Option, none, some}
 use Prim.Native.Nat.{ℕ, zero, suc, _<_}
@@ -35,7 +35,7 @@ module _ {S S′ : Type 0} (P : S → S′ → Type 0) where
 
   -- and the same boats come into the sets
   same-blamed : (i : ℕ) {c d : Sets} → c ≡ d → {v : Verdict S} {w : Verdict S′} → SameVerdict v w → blamed c i v ≡ blamed d i w
-  same-blamed i f (both-pass k) = f
+  same-blamed i f (both-pass {σ = σ} k) = ap (λ (x : Sets). blamed x i (pass σ)) f
   same-blamed i f (both-fail e) = ap₂ (λ (x : Sets) (y : Boats). blamed x i {S = S} (fail y)) f e
 
 -- what the two remember is related, and their conflict sets are the same
@@ -77,7 +77,10 @@ module _ (t : Tables) {S S′ : Type 0} (F : Forward S) (G : Forward S′) (K : 
 
     -- ---- with conflict sets
     same-toBlame : (p : List ℕ) (a : ℕ) (σ : Jumping S) (τ : Jumping S′) → WithSets K p a σ τ → length p < boats t → toBlame F σ p ≡ toBlame G τ p
-    same-toBlame p a σ τ k lp = ap₂ {C = Boats} (λ (x : Sets) (y : Boats) j. x (length p) j || y j) (k .1) (W .same-blamers p (σ .rest) (τ .rest) (k .0) lp)
+    same-toBlame p a σ τ k lp =
+        let s = k .1 in
+        let b = W .same-blamers p (σ .rest) (τ .rest) (k .0) lp in
+        fun-ext (λ j. cc)
 
     same-jump : (p : List ℕ) (a : ℕ) (σ : Jumping S) (τ : Jumping S′) → WithSets K p a σ τ → length p < boats t → (s : Boats) (x : Option ℕ) →
         SameWay (WithSets K) p (jump F σ (length p) s x) (jump G τ (length p) s x)

@@ -1,15 +1,17 @@
--- Sets of boats by their members: the deepest member, a set that more boats are put into, a set that is handed down. Assumes nothing.
-use mathlib.Core.Path.{_≡_, refl}
-use mathlib.Core.Bool.{Bool, true, false, cond, not, _&&_, _||_}
+-- Sets of boats by their members: the deepest member, a set that more boats are put into, a set that is handed down by a jump. Assumes nothing.
+use mathlib.Core.Path.{_≡_, refl, ap}
+use mathlib.Core.Bool.{Bool, true, false, _&&_, _||_, or-true}
 use mathlib.Core.Logic.{_≢_, _⊎_, inl, inr}
-use mathlib.Core.Option.{none, some}
+use mathlib.Core.Option.{Option, none, some}
 use Prim.Native.Nat.{ℕ, zero, suc, _≤_, _<_}
 use native.Mathlib.Omega.{arith}
-use native.Mathlib.Decide.{decLt, ℕ-discrete}
+use native.Mathlib.Decide.{ℕ-discrete}
 use lib.Dec.{T, eqb}
-use borrow.Author.Tests.{eq-eqb, ne-eqb, lt-ltb, le-ltb, le-leb, lt-leb}
-use Rattle.methods.specs.Moves.{Boats, fail}
-use Rattle.methods.specs.CBJ.{Sets, blamed, deepest, handedDown}
+use borrow.Author.Tests.{eq-eqb, ne-eqb, le-ltb}
+use Rattle.problem.proofs.Places.{is-true, to-true}
+use Rattle.methods.specs.Machine.{nowhere, back}
+use Rattle.methods.specs.Moves.{Boats, fail, Forward}
+use Rattle.methods.specs.CBJ.{Sets, Jumping, blamed, deepest, handedDown, jump}
 
 -- ---- tests
 pub or-left : (a b : Bool) → T a → T (a || b)
@@ -27,14 +29,6 @@ or-cases false b x = inr x
 pub and-both : (a b : Bool) → T a → T b → T (a && b)
 and-both true b x y = y
 and-both false b x y = x
-
-pub and-fst : (a b : Bool) → T (a && b) → T a
-and-fst true b x = tt
-and-fst false b x = x
-
-pub and-snd : (a b : Bool) → T (a && b) → T b
-and-snd true b x = x
-and-snd false b x = absurd x
 
 -- ---- the deepest member
 pub deepest-some : (n h : ℕ) (s : Boats) → deepest n s ≡ some h → T (s h) × ((j : ℕ) → j < n → T (s j) → j ≤ h)
@@ -66,53 +60,39 @@ deepest-none (suc n) s e j lj m = by-top (s n) refl (deepest-none n s) (ℕ-disc
 -- ---- boats put into the set of boat i
 module _ (sets : Sets) (i : ℕ) (s : Boats) where
   pub blamed-old : (k j : ℕ) → T (sets k j) → T (blamed sets i {S = Unit {0}} (fail s) k j)
-  blamed-old k j x = by-case (eqb k i)
+  blamed-old k j x = by (ℕ-discrete k i)
     where
-      by-case : (b : Bool) → T (cond b (sets k j || s j) (sets k j))
-      by-case true = or-left (sets k j) (s j) x
-      by-case false = x
+      by : Dec (k ≡ i) → T (blamed sets i {S = Unit {0}} (fail s) k j)
+      by (yes e) = to-true (blamed sets i {S = Unit {0}} (fail s) k j) (simp (eq-eqb k i e, is-true (sets k j) x))
+      by (no n) = to-true (blamed sets i {S = Unit {0}} (fail s) k j) (simp (ne-eqb k i n, is-true (sets k j) x))
 
   pub blamed-new : (j : ℕ) → T (s j) → T (blamed sets i {S = Unit {0}} (fail s) i j)
-  blamed-new j x = rw (eq-eqb i i refl) (or-right (sets i j) (s j) x)
-
-  pub blamed-cases : (k j : ℕ) → T (blamed sets i {S = Unit {0}} (fail s) k j) → T (sets k j) ⊎ ((k ≡ i) × T (s j))
-  blamed-cases k j x = by-case (ℕ-discrete k i)
-    where
-      mapped : k ≡ i → T (sets k j) ⊎ T (s j) → T (sets k j) ⊎ ((k ≡ i) × T (s j))
-      mapped e (inl y) = inl y
-      mapped e (inr y) = inr (e, y)
-
-      by-case : Dec (k ≡ i) → T (sets k j) ⊎ ((k ≡ i) × T (s j))
-      by-case (yes e) = mapped e (or-cases (sets k j) (s j) (rw (eq-eqb k i e) at x))
-      by-case (no ne) = inl (rw (ne-eqb k i ne) at x)
-
-not-eqb : (j h : ℕ) → j ≢ h → T (not (eqb j h))
-not-eqb j h ne = rw (ne-eqb j h ne) tt
-
-eqb-not : (j h : ℕ) → T (not (eqb j h)) → j ≢ h
-eqb-not j h x e = rw (eq-eqb j h e) at x
+  blamed-new j x = to-true (blamed sets i {S = Unit {0}} (fail s) i j) (simp (eq-eqb i i refl, is-true (s j) x, or-true))
 
 -- ---- the boats s handed down from boat i to boat h
 module _ (sets : Sets) (i h : ℕ) (s : Boats) where
   pub handed-below : (k j : ℕ) → k < h → handedDown sets i h s k j ≡ sets k j
-  handed-below k j lk = rw (ne-eqb k h (omega arith), le-ltb h k (omega arith))
+  handed-below k j lk =
+      let e = ne-eqb k h (omega arith) in
+      let f = le-ltb h k (omega arith) in
+      cc
 
   pub handed-old : (j : ℕ) → T (sets h j) → j ≢ h → T (handedDown sets i h s h j)
-  handed-old j x ne = rw (eq-eqb h h refl) (and-both (sets h j || s j) (not (eqb j h)) (or-left (sets h j) (s j) x) (not-eqb j h ne))
+  handed-old j x ne = to-true (handedDown sets i h s h j) (simp (eq-eqb h h refl, is-true (sets h j) x, ne-eqb j h ne))
 
   pub handed-new : (j : ℕ) → T (s j) → j ≢ h → T (handedDown sets i h s h j)
-  handed-new j x ne = rw (eq-eqb h h refl) (and-both (sets h j || s j) (not (eqb j h)) (or-right (sets h j) (s j) x) (not-eqb j h ne))
+  handed-new j x ne = to-true (handedDown sets i h s h j) (simp (eq-eqb h h refl, is-true (s j) x, or-true, ne-eqb j h ne))
 
-  -- a member of a set after it: of a set that it leaves alone, or of the union at boat h
-  pub handed-cases : (k j : ℕ) → T (handedDown sets i h s k j) → (((k < h) ⊎ (i < k)) × T (sets k j)) ⊎ ((k ≡ h) × (j ≢ h) × (T (sets h j) ⊎ T (s j)))
-  handed-cases k j x = by-case (ℕ-discrete k h) (decLt h k) (decLt i k)
-    where
-      at-h : k ≡ h → T ((sets h j || s j) && not (eqb j h)) → (k ≡ h) × (j ≢ h) × (T (sets h j) ⊎ T (s j))
-      at-h e y =
-          (e, eqb-not j h (and-snd (sets h j || s j) (not (eqb j h)) y), or-cases (sets h j) (s j) (and-fst (sets h j || s j) (not (eqb j h)) y))
+-- ---- where a jump goes: nowhere if nobody is to blame, else to the deepest that is
+module _ {S : Type 0} (F : Forward S) (σ : Jumping S) (i : ℕ) (s : Boats) where
+  pub jump-out : (x : Option ℕ) → jump F σ i s x ≡ nowhere → x ≡ none
+  jump-out none e = refl
+  jump-out (some h) e = let z : _≡_ {A = ℕ} 0 1 = cc in absurd (omega arith)
 
-      by-case : Dec (k ≡ h) → Dec (h < k) → Dec (i < k) → (((k < h) ⊎ (i < k)) × T (sets k j)) ⊎ ((k ≡ h) × (j ≢ h) × (T (sets h j) ⊎ T (s j)))
-      by-case (yes e) d c = inr (at-h e (rw (eq-eqb k h e) at x))
-      by-case (no ne) (no nl) c = inl (inl (omega arith), rw (ne-eqb k h ne, le-ltb h k (omega arith)) at x)
-      by-case (no ne) (yes lt) (yes li) = inl (inr li, rw (ne-eqb k h ne, lt-ltb h k lt, lt-leb k i li) at x)
-      by-case (no ne) (yes lt) (no ni) = absurd (rw (ne-eqb k h ne, lt-ltb h k lt, le-leb k i (omega arith)) at x)
+  pub jump-back : (x : Option ℕ) (h : ℕ) (τ : Jumping S) → jump F σ i s x ≡ back h τ →
+      (x ≡ some h) × (τ ≡ record { sets = handedDown (σ .sets) i h s; rest = F .putBack h (σ .rest) })
+  jump-back none h τ e = let z : _≡_ {A = ℕ} 0 1 = cc in absurd (omega arith)
+  jump-back (some g) h τ e =
+      let z : g ≡ h = cc in
+      let y : record { sets = handedDown (σ .sets) i g s; rest = F .putBack g (σ .rest) } ≡ τ = cc in
+      (ap some z, rw (← y, z))

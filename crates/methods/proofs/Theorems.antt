@@ -1,5 +1,5 @@
 -- THE THEOREMS ON THE METHODS that a reader is shown: demand 2 and demand 3 of each method's definition, under any allowances. Assumes nothing.
-use mathlib.Core.Path.{_≡_, refl, sym, ap, subst}
+use mathlib.Core.Path.{_≡_, sym, subst}
 use mathlib.Core.List.{List}
 use Prim.Native.Nat.{ℕ, _≤_, _<_}
 use lib.Dec.{T}
@@ -24,17 +24,16 @@ use Rattle.methods.specs.Promises.{Means, Saves, cbjForBt, bmForBt, fcCb
 use Rattle.methods.proofs.Runs.{runs}
 use Rattle.methods.proofs.Standing.{Meaning, fit-start}
 use Rattle.methods.proofs.Sound.{behind-start, sound-start}
-use Rattle.methods.proofs.Reached.{Reached, members-below}
+use Rattle.methods.proofs.Reached.{Reached}
+use Rattle.methods.proofs.Members.{members-below}
 use Rattle.methods.proofs.Cheaper.{plain-cheaper}
 use Rattle.methods.proofs.Demands.{step-means, jump-means, jump-cheaper}
-use Rattle.methods.proofs.Backward.{back-honest}
+use Rattle.methods.proofs.Backward.{back-honest, back-placed}
 use Rattle.methods.proofs.Marked.{Marked, marked-start, marks-justified, marks-none-wait, marks-few-trials, marks-few-checks}
 use Rattle.methods.proofs.ByPlan.{aheadByPlan}
 use Rattle.methods.proofs.Ahead.{ahead-honest}
-use Rattle.methods.proofs.Same.{reached-same}
-use Rattle.methods.proofs.SameMoves.{WithSets, jumping-alike}
-use Rattle.methods.proofs.Strikes.{Struck, struck-start}
-use Rattle.methods.proofs.AheadSame.{ahead-twins, fc-same, fccbj-same}
+use Rattle.methods.proofs.AheadMembers.{StruckByPlaced, ahead-placed}
+use Rattle.methods.proofs.AheadSame.{fc-same, fccbj-same}
 use Rattle.methods.proofs.Shown.{shown-is, none-no-plan, foremost-first}
 
 -- ---- each method's search in choices, and what it means there
@@ -113,11 +112,8 @@ raising-changes-nothing way t ca ta ca′ ta′ r lc lt e = raising ca ta ca′ 
 -- ---- in every place that a search reaches, the members of a boat's set are below the boat
 pub members-below-cbj : (t : Tables) {p : List ℕ} {a : ℕ} {σ : Jumping (Unit {0})} → Reached t (cbj t) p a σ → (k j : ℕ) → T (σ .sets k j) → j < k
 unfolding cbj
-members-below-cbj t r = members-below t (lookingBack t) (back-honest t) r
+members-below-cbj t r = members-below t (lookingBack t) (λ p σ. Unit {0}) (back-placed t) r
 
 pub members-below-fccbj : (t : Tables) {p : List ℕ} {a : ℕ} {σ : Jumping Strikes} → Reached t (fccbj t) p a σ → (k j : ℕ) → T (σ .sets k j) → j < k
-unfolding fccbj lookingAhead
-members-below-fccbj t {p} {a} {σ} r k j x =
-    let w = reached-same t (jumping t (lookingAhead t)) (jumping t (aheadByPlan t)) (WithSets (λ p s τ. Struck t p s))
-    (jumping-alike t (lookingAhead t) (aheadByPlan t) (λ p s τ. Struck t p s) (ahead-twins t)) (struck-start t, refl) r in
-    members-below t (aheadByPlan t) (ahead-honest t) (w .1) k j (rw (← (w .2 .1)) x)
+unfolding fccbj
+members-below-fccbj t r = members-below t (lookingAhead t) StruckByPlaced (ahead-placed t) r

@@ -16,7 +16,7 @@ use Rattle.methods.specs.Moves.{some?}
 use Rattle.methods.specs.BT.{lookBack, lookingBack, bt}
 use Rattle.methods.specs.CBJ.{deepest, cbj}
 use Rattle.methods.specs.BM.{bm}
-use Rattle.methods.specs.FC.{isLive, strikers, slotChecks, choiceStays, sweep, struck, putBackFrom, lookingAhead, fc}
+use Rattle.methods.specs.FC.{isLive, strikers, slotChecks, choiceStays, sweep, struck, endOfSweep, putBackFrom, lookingAhead, fc}
 use Rattle.methods.specs.FCCBJ.{fccbj}
 use Rattle.methods.specs.Methods.{searchBy}
 
@@ -39,7 +39,7 @@ tablesOf sizes pairs rows = record { sizes = sizes; pairs = pairs; rows = rows }
 
 -- what the definitions say. (To unfold this is to unfold all that its line names)
 unfoldable pub comesOf : Case → Outcome
-unfolding searchBy shown shownEvent shownPlan shownEnding slotOf choices mayStand cut cutFrom search searchFrom run onward step atSea atBoat atChoice tried leave backTo counts span ahead bt lookingBack lookBack cbj deepest bm fc lookingAhead isLive strikers slotChecks choiceStays sweep struck putBackFrom some? fccbj lowestFrom lowest sum place isListed start allowed
+unfolding searchBy shown shownEvent shownPlan shownEnding slotOf choices mayStand cut cutFrom search searchFrom run onward step atSea atBoat atChoice tried leave backTo counts span ahead bt lookingBack lookBack cbj deepest bm fc lookingAhead isLive strikers slotChecks choiceStays sweep struck endOfSweep putBackFrom some? fccbj lowestFrom lowest sum place isListed start allowed
 comesOf k = cut (k .checks) (k .trials) (searchBy (k .method) (k .tables))
 
 -- ---- the thirteen

@@ -63,7 +63,7 @@ module _ (t : Tables) (s : Strikes) where
     struck h j b = s h j b || (eqb h i && ltb i j && isListed (t .pairs) i j && isLive j b && not (mayStand t i a j b))
 
     -- a boat was emptied: all that this trial struck is put back, and the choice of i has failed
-    abbrev pub endOfSweep : Option ℕ → Verdict Strikes
+    unfoldable pub endOfSweep : Option ℕ → Verdict Strikes
     endOfSweep none = pass struck
     endOfSweep (some j) = fail (strikers j)
 

@@ -3,7 +3,7 @@ use mathlib.Core.Bool.{Bool, true, false}
 use mathlib.Core.List.{List, [], _∷_, _++_}
 use Prim.Native.Nat.{ℕ, zero, suc, _+_, _-_, _*_}
 use lib.Dec.{ltb}
-use lib.ListN.{length, getD, take}
+use lib.ListN.{length, getD, take, drop}
 use Rattle.problem.specs.Tables.{Tables, boats}
 use Rattle.events.specs.Events.{Event, trial, Ending, solved, noPlan, astray, Search, _then_}
 use Rattle.methods.specs.Choices.{choices}
@@ -100,3 +100,11 @@ searchFrom t M p a σ = run t M (ahead (counts t 0 (boats t)) p a) p a σ
 -- from the beginning
 unfoldable pub search : (t : Tables) {S : Type 0} (M : Method S) → Search
 search t M = searchFrom t M [] 0 (M .start)
+
+-- ---- from a place inside a trial (No. 10): plan, choice and memory are those before the step, and so many of its events are made and come no more
+unfoldable pub unmade : {S : Type 0} → (made : ℕ) → Step S → Step S
+unmade made (stop r) = stop r
+unmade made (next es p a σ) = next (drop made es) p a σ
+
+unfoldable pub searchInside : (t : Tables) {S : Type 0} (M : Method S) → (made : ℕ) → (plan : List ℕ) → (choice : ℕ) → S → Search
+searchInside t M made p a σ = onward (searchFrom t M) (unmade made (step t M p a σ))
