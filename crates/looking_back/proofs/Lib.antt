@@ -1,4 +1,4 @@
 pub mod Looks
-pub mod Indices
 pub mod Looking
+pub mod Links
 pub mod Trials

@@ -23,7 +23,11 @@ use Rattle.words.specs.Layout.{word}
 use Rattle.looking_back.specs.declared.Look.{Look}
 use Rattle.looking_back.specs.declared.Look.the-variants.{On, Off, Out}
 use Rattle.looking_back.specs.Looks.{checkedLook}
-use Rattle.looking_back.proofs.Indices.{lookOf}
+
+-- what a look comes to, by the pair: an unlisted one costs no check
+abbrev pub lookOf : (listed may : Bool) → Counts → Look
+lookOf false may m = On m
+lookOf true may m = checkedLook may (checkCounted m)
 
 -- ---- one look, as what is to come: an unlisted pair costs no check
 abbrev afterLook : (listed may : Bool) → Event → (on off : Search) → Search
@@ -78,43 +82,47 @@ module _ (ended : Option ℕ → Search) where
   found-more true true h e r = refl
   found-more true false h e r = refl
 
-  module _ (t : Tables) (w : List ℕ) (i a : ℕ) (le : i ≤ length w) (h : ℕ) where
-    -- the boats from h on are still to be looked at
-    abbrev from : ℕ → Search
-    from h = found (lookBack t i a h (drop h (take i w)))
+  -- the boats from h on are still to be looked at
+  abbrev pub from : Tables → List ℕ → (i a h : ℕ) → Search
+  from t w i a h = found (lookBack t i a h (drop h (take i w)))
 
+  module _ (t : Tables) (w : List ℕ) (i a : ℕ) (le : i ≤ length w) (h : ℕ) where
     at-next : h < i → drop h (take i w) ≡ word w h ∷ drop (suc h) (take i w)
     at-next lh = drop-cons (take i w) h 0 (omega (arith, length-take-le i w le)) ∙ ap (λ (x : ℕ). x ∷ drop (suc h) (take i w)) (getD-take i w h 0 lh)
 
-    from-more : h < i → from h ≡ afterLook (isListed (t .pairs) h i) (mayStand t h (word w h) i a) (check h (word w h) i a) (from (suc h)) (ended (some h))
+    from-more : h < i → from t w i a h ≡ afterLook (isListed (t .pairs) h i) (mayStand t h (word w h) i a) (check h (word w h) i a) (from t w i a (suc h)) (ended (some h))
     unfolding lookBack
     from-more lh =
         ap (λ (xs : List ℕ). found (lookBack t i a h xs)) (at-next lh)
         ∙ found-more (isListed (t .pairs) h i) (mayStand t h (word w h) i a) h (check h (word w h) i a) (lookBack t i a (suc h) (drop (suc h) (take i w)))
 
-    from-end : i ≤ h → from h ≡ ended none
+    -- an unlisted boat costs no check
+    pub from-past : h < i → isListed (t .pairs) h i ≡ false → from t w i a h ≡ from t w i a (suc h)
+    from-past lh f = from-more lh ∙ ap (λ (l : Bool). afterLook l (mayStand t h (word w h) i a) (check h (word w h) i a) (from t w i a (suc h)) (ended (some h))) f
+
+    pub from-end : i ≤ h → from t w i a h ≡ ended none
     unfolding lookBack
     from-end lh = ap (λ (xs : List ℕ). found (lookBack t i a h xs)) (drop-of-length-le (take i w) {i = h} (omega (arith, length-take-le i w le)))
 
     module _ (m : Counts) (f : Fits m) where
       -- past the last placed boat
-      pub looks-end : i ≤ h → Leads m (from h) m (ended none)
+      pub looks-end : i ≤ h → Leads m (from t w i a h) m (ended none)
       looks-end lh = leads-eq m _ _ f (from-end lh)
 
       -- one look, by what it comes to
       module _ (lh : h < i) (r : Look) (k : Counts) (e : r ≡ lookOf (isListed (t .pairs) h i) (mayStand t h (word w h) i a) m) where
-        pub looks-on : r ≡ On k → Leads m (from h) k (from (h + 1))
+        pub looks-on : r ≡ On k → Leads m (from t w i a h) k (from t w i a (h + 1))
         looks-on g =
             rw add-one
             (leads-trans (leads-eq m _ _ f (from-more lh))
-            (leads-on h (word w h) i a (from (suc h)) (ended (some h)) m k f (isListed (t .pairs) h i) (mayStand t h (word w h) i a) (sym e ∙ g)))
+            (leads-on h (word w h) i a (from t w i a (suc h)) (ended (some h)) m k f (isListed (t .pairs) h i) (mayStand t h (word w h) i a) (sym e ∙ g)))
 
-        pub looks-off : r ≡ Off k → Leads m (from h) k (ended (some h))
+        pub looks-off : r ≡ Off k → Leads m (from t w i a h) k (ended (some h))
         looks-off g =
             leads-trans (leads-eq m _ _ f (from-more lh))
-            (leads-off h (word w h) i a (from (suc h)) (ended (some h)) m k f (isListed (t .pairs) h i) (mayStand t h (word w h) i a) (sym e ∙ g))
+            (leads-off h (word w h) i a (from t w i a (suc h)) (ended (some h)) m k f (isListed (t .pairs) h i) (mayStand t h (word w h) i a) (sym e ∙ g))
 
-        pub looks-out : r ≡ Out k → cutAt m (from h) ≡ outcome (undecided Checks) (k .checks) (k .trials)
+        pub looks-out : r ≡ Out k → cutAt m (from t w i a h) ≡ outcome (undecided Checks) (k .checks) (k .trials)
         looks-out g =
             ap (cutAt m) (from-more lh)
-            ∙ leads-out h (word w h) i a (from (suc h)) (ended (some h)) m k f (isListed (t .pairs) h i) (mayStand t h (word w h) i a) (sym e ∙ g)
+            ∙ leads-out h (word w h) i a (from t w i a (suc h)) (ended (some h)) m k f (isListed (t .pairs) h i) (mayStand t h (word w h) i a) (sym e ∙ g)

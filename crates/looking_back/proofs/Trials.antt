@@ -18,6 +18,7 @@ use Rattle.events.specs.Counts.{trialCounted, Fits, cutAt, Leads}
 use Rattle.events.proofs.Leading.{leads-eq, leads-trans, leads-trial, trial-out}
 use Rattle.methods.specs.Moves.{only}
 use Rattle.methods.specs.BT.{lookBack, blameFailing, lookingBack}
+use Rattle.words.specs.Links.{Links}
 use Rattle.words.specs.Sets.{WithMember}
 use Rattle.words.specs.Visits.{here, onward}
 use Rattle.words.proofs.Visiting.{settled, refused, here-trial, here-blamed, here-spent}
@@ -29,6 +30,12 @@ ended t jumps w i a s f = settled (blameFailing f) (onward t (lookingBack t) jum
 -- slot a of boat i has passed the boats below h
 abbrev pub mid : Tables → (jumps : Bool) → List ℕ → (i a s h : ℕ) → Search
 mid t jumps w i a s h = lookBack t i a h (drop h (take i w)) .checks then ended t jumps w i a s (lookBack t i a h (drop h (take i w)) .failing)
+
+-- slot a of boat i has passed the boats below h, whose links from there on are the words from `at` up to `end`
+pub record LookedTo (t : Tables) (w : List ℕ) (i a s end : ℕ) (begun : Counts) (at : ℕ) (m : Counts) : Type 0 where
+  pub h : ℕ
+  pub links : Links t w i i h at end
+  pub leads : (jumps : Bool) → Leads begun (mid t jumps w i a s 0) m (mid t jumps w i a s h)
 
 module _ (t : Tables) (jumps : Bool) (w : List ℕ) (i : ℕ) (le : i ≤ length w) (lt : i < boats t) where
   tried : (a s : ℕ) → a < size (t .sizes) i → here t (lookingBack t) jumps w i a s ≡ (trial i a ∷ []) then mid t jumps w i a s 0

@@ -1,13 +1,14 @@
 // BM: a trial looks back only as far as its mark and the boat's b do not already tell.
 ghost use mathlib.Core.Path.{_≡_};
-ghost use Prim.Native.Nat.{ℕ, pred, _+_, _*_, _≤_, _<_};
-ghost use lib.ListN.{length};
+ghost use Prim.Native.Nat.{ℕ, pred, _+_, _-_, _*_, _≤_, _<_};
+ghost use lib.ListN.{length, getD};
+ghost use Rattle.problem.specs.Tables.{bit};
 ghost use Rattle.problem.specs.Sane.{Sane};
 ghost use Rattle.events.specs.Counts.{Fits};
 ghost use Rattle.methods.specs.BM.{lowered};
 ghost use Rattle.words.specs.Layout.{tables, Only, Zero, Placed, Indexed};
 ghost use Rattle.marking.specs.Marks.{marksOf, Falling, VisitsMarked};
-ghost use Rattle.marking.specs.Looks.{LooksFrom};
+ghost use Rattle.marking.specs.Looks.{lookedAt, LooksFrom};
 use events::Counted;
 use events::Counts;
 use looking_back::Look;
@@ -18,6 +19,19 @@ enum Looked {
     Clear(Counts),
     Failing(usize, Counts),
     Out(Counts),
+}
+
+// A look at a placed boat by its index word and the slot that it holds: an unlisted pair costs no check.
+fn look_at(rows: &[u64], index: u64, held: u64, slot: u64, counts: Counts) -> Look
+    requires { ⌜ slot < 64 ⌝ }
+    requires { ⌜ (0 < index → index - 1 + held < length (now rows)) ⌝ }
+    ensures { λ r. ⌜ r ≡ lookedAt index (bit (getD (now (rows .entry)) (index - 1 + held) 0) slot) counts ⌝ }
+{
+    if index == 0 {
+        return Look::On(counts);
+    }
+    let at = (index - 1 + held) as usize;
+    looking_back::check_row(rows[at], slot, counts)
 }
 
 // A slot of boat i against boats low, low + 1, .. i - 1 until one fails.
@@ -41,7 +55,7 @@ fn look_from(
     let mut counts = start;
     let mut h = low;
     while h < i {
-        match looking_back::look_at(rows, work[row + h], work[h], slot, counts) {
+        match look_at(rows, work[row + h], work[h], slot, counts) {
             Look::On(k) => counts = k,
             Look::Off(k) => return Looked::Failing(h, k),
             Look::Out(k) => return Looked::Out(k),

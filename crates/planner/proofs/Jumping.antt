@@ -33,7 +33,7 @@ use Rattle.planner.specs.Memory.{Kept}
 use Rattle.planner.specs.Moves.{Unlabels}
 use Rattle.planner.specs.Jumps.{HandsDown, JumpsBack}
 use Rattle.planner.proofs.Backwards.{Leaving, left-few, left-long, kept-as, unlabels-as, placed-back, lives-back, copied-back, lives-stay, copied-stays}
-use Rattle.planner.proofs.Put.{placed-stays, indexed-stays, firsts-stay}
+use Rattle.planner.proofs.Put.{placed-stays, linked-stays, firsts-stay}
 
 or-none : (a : Bool) → (a || false) ≡ a
 or-none true = refl
@@ -140,7 +140,7 @@ module _ {t : Tables} {w : List ℕ} {i : ℕ} (g : Leaving t w i) where
         same = plan-same (left-few g) (g .words) d;
         only = within (left-few g) (g .words) d;
         kept = (
-          indexed-stays o t (omega arith) (q .0),
+          linked-stays o t (omega arith) (q .0),
           placed-stays o t h (omega (arith, left-few g)) (placed-back t w lh (q .1)),
           lower-after (left-few g) (g .words) d (q .2),
         );

@@ -19,7 +19,8 @@ use Rattle.methods.specs.Machine.{searchFrom}
 use Rattle.methods.specs.Moves.{Forward}
 use Rattle.methods.specs.BT.{lookingBack}
 use Rattle.methods.specs.BM.{Marks, bm}
-use Rattle.words.specs.Layout.{word, Only, Zero, Placed, Indexed}
+use Rattle.words.specs.Layout.{word, Only, Zero, Placed}
+use Rattle.words.specs.Links.{Linked}
 use Rattle.words.specs.Sets.{setWords}
 use Rattle.words.specs.Visits.{over, state, here, onward, Visits}
 use Rattle.words.specs.declared.Visited.{Visited}
@@ -30,7 +31,7 @@ use Rattle.marking.proofs.Visits.{Visiting, still-enough, still-placed, still-i
 use Rattle.planner.specs.declared.labelled.Labelled.the-variants.{Passed as LPassed, Spent as LSpent, OutOfChecks as LOutOfChecks, OutOfTrials as LOutOfTrials}
 use Rattle.planner.specs.Memory.{Kept, atBoat}
 use Rattle.planner.specs.Moves.{backWay, Labels}
-use Rattle.planner.proofs.Put.{indexed-stays, placed-set, kept-plan, kept-only, kept-placed, kept-sets, kept-lower, put, put-plan, put-only, put-placed, put-sets, put-lower}
+use Rattle.planner.proofs.Put.{indexed-stays, linked-stays, placed-set, kept-plan, kept-only, kept-placed, kept-sets, kept-lower, put, put-plan, put-only, put-placed, put-sets, put-lower}
 
 -- ---- the set that a visit begins with: the boat's own, where the method jumps
 abbrev pub begins : (jumps : Bool) → List ℕ → (i : ℕ) → ℕ
@@ -63,20 +64,20 @@ at-here false t w i a = refl
 at-here true t w i a = refl
 
 -- ---- BT and CBJ
-pub kept-back : (jumps : Bool) (t : Tables) (w : List ℕ) (i : ℕ) → Kept (backWay jumps) t w i → Indexed t w × Placed t w i × (begins jumps w i < 2 ^ i)
+pub kept-back : (jumps : Bool) (t : Tables) (w : List ℕ) (i : ℕ) → Kept (backWay jumps) t w i → Linked t w × Placed t w i × (begins jumps w i < 2 ^ i)
 kept-back false t w i x = (x .0, x .1, pow-pos i)
 kept-back true t w i x = (x .0, x .1, x .2 i (le-refl i))
 
 module _ (t : Tables) (w : List ℕ) (i : ℕ) (li : i < 64) (room : 8192 ≤ length w) where
   put-kept : (jumps : Bool) (b s : ℕ) → b < size (t .sizes) i → s < 2 ^ i → Kept (backWay jumps) t w i → Kept (backWay jumps) t (put w i b s) (suc i)
-  put-kept false b s lb ls x = (indexed-stays (put-only w i b s li room) t (omega arith) (x .0), put-placed w i b s li room t lb (x .1))
+  put-kept false b s lb ls x = (linked-stays (put-only w i b s li room) t (omega arith) (x .0), put-placed w i b s li room t lb (x .1))
   put-kept true b s lb ls x =
-      (indexed-stays (put-only w i b s li room) t (omega arith) (x .0), put-placed w i b s li room t lb (x .1), put-lower w i b s li room ls (x .2))
+      (linked-stays (put-only w i b s li room) t (omega arith) (x .0), put-placed w i b s li room t lb (x .1), put-lower w i b s li room ls (x .2))
 
   spent-kept : (jumps : Bool) (s : ℕ) → s < 2 ^ i → Kept (backWay jumps) t w i → Kept (backWay jumps) t (set w (64 + i) s) i
-  spent-kept false s ls x = (indexed-stays (kept-only w i s li room) t (omega arith) (x .0), kept-placed w i s li room t (x .1))
+  spent-kept false s ls x = (linked-stays (kept-only w i s li room) t (omega arith) (x .0), kept-placed w i s li room t (x .1))
   spent-kept true s ls x =
-      (indexed-stays (kept-only w i s li room) t (omega arith) (x .0), kept-placed w i s li room t (x .1), kept-lower w i s li room ls (x .2))
+      (linked-stays (kept-only w i s li room) t (omega arith) (x .0), kept-placed w i s li room t (x .1), kept-lower w i s li room ls (x .2))
 
   module _ (jumps : Bool) (a with : ℕ) (m : Counts) (e : with ≡ begins jumps w i) where
     started : here t (lookingBack t) jumps w i a with ≡ atBoat (backWay jumps) t w i a

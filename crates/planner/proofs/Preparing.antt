@@ -15,6 +15,7 @@ use Rattle.methods.specs.BT.{lookingBack}
 use Rattle.methods.specs.BM.{noMarks, bm}
 use Rattle.methods.proofs.ByPlan.{aheadByPlan}
 use Rattle.words.specs.Layout.{word, Zero, Only, Placed, Indexed, Firsts, liveAt}
+use Rattle.words.specs.Links.{Linked}
 use Rattle.words.specs.Sets.{membersOf, setWords, Lower}
 use Rattle.words.proofs.Bits.{bit-zero}
 use Rattle.words.proofs.Only.{only-trans, only-widen}
@@ -67,14 +68,8 @@ none-placed t w h l = absurd (omega arith)
 none-lower : (w : List ℕ) → word w 64 ≡ 0 → Lower w 0
 none-lower w e k l = let z : k ≡ 0 = omega arith in rw (z, e) (pow-pos 0)
 
--- ---- from words that are all 0, for looking back
-module _ (t : Tables) {w w′ : List ℕ} (zero : Zero 0 8192 w) (found : Indexed t w′) (o : Only 512 4096 w w′) where
-  still : (k : ℕ) → k < 512 → word w′ k ≡ 0
-  still k l = o .others k (inl l) ∙ zero k (omega arith) (omega arith)
-
-  later : (k : ℕ) → 4096 ≤ k → k < 8192 → word w′ k ≡ 0
-  later k lo hi = o .others k (inr lo) ∙ zero k (omega arith) hi
-
+-- ---- from words that are all 0, for BT and CBJ
+module _ (t : Tables) {w w′ : List ℕ} (zero : Zero 0 8192 w) (found : Linked t w′) (o : Only 192 4096 w w′) where
   back-only : Only 0 8192 w w′
   back-only = only-widen (omega arith) (omega arith) o
 
@@ -85,8 +80,16 @@ module _ (t : Tables) {w w′ : List ℕ} (zero : Zero 0 8192 w) (found : Indexe
   pub prepared-cbj : Prepared Cbj t w w′
   unfolding lookingBack
   prepared-cbj =
-      let e : word w′ 64 ≡ 0 = still 64 (omega arith) in
+      let e : word w′ 64 ≡ 0 = o .others 64 (inl (omega arith)) ∙ zero 64 (omega arith) (omega arith) in
       record { kept = (found, none-placed t w′, none-lower w′ e); fresh = λ d. record { sets = no-sets w′ e d; rest = tt }; only = back-only }
+
+-- ---- for BM
+module _ (t : Tables) {w w′ : List ℕ} (zero : Zero 0 8192 w) (found : Indexed t w′) (o : Only 512 4096 w w′) where
+  still : (k : ℕ) → k < 512 → word w′ k ≡ 0
+  still k l = o .others k (inl l) ∙ zero k (omega arith) (omega arith)
+
+  later : (k : ℕ) → 4096 ≤ k → k < 8192 → word w′ k ≡ 0
+  later k lo hi = o .others k (inr lo) ∙ zero k (omega arith) hi
 
   pub prepared-bm : Prepared Bm t w w′
   unfolding bm
@@ -94,7 +97,7 @@ module _ (t : Tables) {w w′ : List ℕ} (zero : Zero 0 8192 w) (found : Indexe
       record {
         kept = (found, none-placed t w′, (λ k lo hi. still k (omega arith)), λ j lo hi. omega (arith, still (65 + j) (omega arith)));
         fresh = no-marks w′ (λ i l. still (64 + i) (omega arith)) (λ i a li la. later (4096 + 64 * i + a) (omega arith) (omega arith));
-        only = back-only;
+        only = only-widen (omega arith) (omega arith) o;
       }
 
 -- ---- and for looking ahead

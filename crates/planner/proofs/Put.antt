@@ -11,13 +11,24 @@ use lib.ListN.{length, take, set, length-set}
 use lib.Seq.{take-suc-set, take-set-le, getD-set-same, getD-set-other}
 use Rattle.problem.specs.Tables.{Tables, size}
 use Rattle.words.specs.Layout.{word, tri, Only, Placed, Indexed, Firsts}
+use Rattle.words.specs.Links.{Linked}
 use Rattle.words.specs.Sets.{setWords, Lower}
+use Rattle.words.proofs.Links.{links-stay}
 use Rattle.words.proofs.Only.{only-trans, only-set}
 
 -- ---- the indices stay where only words before them have changed, and the plan so far where only later words have
 module _ {a b : ℕ} {w w′ : List ℕ} (o : Only a b w w′) (t : Tables) where
   pub indexed-stays : b ≤ 512 → Indexed t w → Indexed t w′
   indexed-stays l x h i lh li = o .others (512 + tri i + h) (inr (omega arith)) ∙ x h i lh li
+
+  pub linked-stays : b ≤ 192 → Linked t w → Linked t w′
+  linked-stays l x =
+      record {
+        few = λ i li. rw (o .others (192 + i) (inr (omega arith))) (x .few i li);
+        links = λ i li.
+            rw (o .others (192 + i) (inr (omega arith)), o .others (193 + i) (inr (omega arith)))
+            (links-stay (λ k lo hi. o .others (512 + k) (inr (omega arith))) (x .links i li));
+      }
 
   pub placed-stays : (i : ℕ) → i ≤ a → Placed t w i → Placed t w′ i
   placed-stays i l x h lh = rw (o .others h (inl (omega arith))) (x h lh)

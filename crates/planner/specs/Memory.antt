@@ -12,6 +12,7 @@ use Rattle.methods.specs.BT.{lookingBack}
 use Rattle.methods.specs.BM.{Marks, bm}
 use Rattle.methods.proofs.ByPlan.{aheadByPlan}
 use Rattle.words.specs.Layout.{word, Zero, Placed, Indexed, Firsts}
+use Rattle.words.specs.Links.{Linked}
 use Rattle.words.specs.Sets.{setWords, Lower}
 use Rattle.words.specs.Visits.{State, over, state}
 use Rattle.marking.specs.Marks.{marksOf, Falling}
@@ -42,8 +43,8 @@ memory FcCbj w i = state true (setWords w i (word w (64 + i)))
 
 -- what is known of the words at boat i, the boats below it being placed
 abbrev pub Kept : Way → Tables → List ℕ → (i : ℕ) → Type 0
-Kept Bt t w i = Indexed t w × Placed t w i
-Kept Cbj t w i = Indexed t w × Placed t w i × Lower w i
+Kept Bt t w i = Linked t w × Placed t w i
+Kept Cbj t w i = Linked t w × Placed t w i × Lower w i
 Kept Bm t w i = Indexed t w × Placed t w i × Zero (64 + boats t) 128 w × Falling w i
 Kept Fc t w i = Firsts t w × Placed t w i × Lives t w (take i w) i × (i < boats t → Copied t w i)
 Kept FcCbj t w i = Firsts t w × Placed t w i × Lives t w (take i w) i × (i < boats t → Copied t w i) × Lower w i

@@ -48,8 +48,8 @@ fn prepare(way: Way, sizes: &[u8], pairs: &[u8], rows: &[u64], work: &mut [u64])
     ensures { λ _. ⌜ Prepared way (tables (now (sizes .entry)) (now (pairs .entry)) (now (rows .entry))) (now (work .entry)) (now (work .exit)) ⌝ }
 {
     match way {
-        Way::Bt => words::index_back(sizes, pairs, rows, work),
-        Way::Cbj => words::index_back(sizes, pairs, rows, work),
+        Way::Bt => words::link_back(sizes, pairs, rows, work),
+        Way::Cbj => words::link_back(sizes, pairs, rows, work),
         Way::Bm => words::index_back(sizes, pairs, rows, work),
         Way::Fc => prepare_ahead(sizes, pairs, rows, work),
         Way::FcCbj => prepare_ahead(sizes, pairs, rows, work),

@@ -4,5 +4,8 @@ pub mod Only
 pub mod Zeroed
 pub mod Firsts
 pub mod Back
+pub mod Links
+pub mod Linking
+pub mod Linked
 pub mod Ahead
 pub mod Visiting

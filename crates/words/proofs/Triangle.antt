@@ -4,8 +4,13 @@ use Prim.Native.Nat.{ℕ, zero, suc, _+_, _*_, _≤_, _<_}
 use native.Mathlib.Nat.{suc-mul, mul-suc, le-refl, eq-or-lt-of-le, le-of-suc-le-suc}
 use mathlib.Core.Logic.{_⊎_, inl, inr}
 use native.Mathlib.Decide.{decLt}
+use native.Mathlib.Numerals.{add-one}
 use native.Mathlib.Omega.{arith}
 use Rattle.words.specs.Layout.{tri}
+
+pub tri-next : (i : ℕ) → tri (i + 1) ≡ tri i + i
+unfolding tri
+tri-next i = rw add-one
 
 -- twice the number is i times i, less i
 pub tri-twice : (i : ℕ) → 2 * tri i + i ≡ i * i

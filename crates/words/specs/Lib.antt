@@ -1,3 +1,4 @@
 pub mod Layout
+pub mod Links
 pub mod Sets
 pub mod Visits

@@ -5,7 +5,8 @@ ghost use lib.ListN.{length};
 ghost use Rattle.problem.specs.Tables.{listed};
 ghost use Rattle.problem.specs.Rising.{Rising};
 ghost use Rattle.problem.specs.Sane.{Sane};
-ghost use Rattle.words.specs.Layout.{tables, tri, firstPair, Only, Zero, Indexed, Firsts};
+ghost use Rattle.words.specs.Layout.{tables, word, tri, indexOf, firstPair, Only, Zero, Indexed, Firsts};
+ghost use Rattle.words.specs.Links.{Links, Linked};
 
 // The index row of a boat: its words for the boats below it.
 pub fn row_at(boat: usize) -> usize
@@ -15,7 +16,7 @@ pub fn row_at(boat: usize) -> usize
     512 + (boat * boat - boat) / 2
 }
 
-// For looking back: at each two boats' word, one more than where the rows of their pair begin. An unlisted pair's word stays 0.
+// For BM: at each two boats' word, one more than where the rows of their pair begin. An unlisted pair's word stays 0.
 pub fn index_back(sizes: &[u8], pairs: &[u8], rows: &[u64], work: &mut [u64])
     requires { ⌜ Sane (tables (now sizes) (now pairs) (now rows)) ⌝ }
     requires { ⌜ (8192 ≤ length (now work)) × Zero 512 4096 (now work) ⌝ }
@@ -31,6 +32,54 @@ pub fn index_back(sizes: &[u8], pairs: &[u8], rows: &[u64], work: &mut [u64])
         work[at] = (start as u64) + 1;
         start += problem::size_of(sizes, low);
         k += 1;
+    }
+}
+
+// The index row of boat i becomes its links, which go from one place on. They are never more than the words passed, so no word is lost that is still to be read.
+fn link_boat(
+    sizes: &[u8],
+    pairs: &[u8],
+    rows: &[u64],
+    i: usize,
+    from: usize,
+    work: &mut [u64],
+) -> usize
+    requires { ⌜ Sane (tables (now sizes) (now pairs) (now rows)) ⌝ }
+    requires { ⌜ (i < length (now sizes)) × (from ≤ tri i) × (8192 ≤ length (now work)) ⌝ }
+    requires { ⌜ ((h : ℕ) → h < i → word (now work) (512 + tri i + h) ≡ indexOf (tables (now sizes) (now pairs) (now rows)) h i) ⌝ }
+    ensures { λ r. ⌜ (r ≤ from + i) × Links (tables (now (sizes .entry)) (now (pairs .entry)) (now (rows .entry))) (now (work .exit)) i i 0 from r ⌝ }
+    ensures { λ r. ⌜ Only (512 + from) (512 + tri i + i) (now (work .entry)) (now (work .exit)) ⌝ }
+{
+    let row = row_at(i);
+    let mut to = from;
+    let mut h: usize = 0;
+    while h < i {
+        let index = work[row + h];
+        if index != 0 {
+            work[512 + to] = (index - 1) * 64 + (h as u64);
+            to += 1;
+        }
+        h += 1;
+    }
+    to
+}
+
+// For BT and CBJ: each boat's links, and where they begin.
+pub fn link_back(sizes: &[u8], pairs: &[u8], rows: &[u64], work: &mut [u64])
+    requires { ⌜ Sane (tables (now sizes) (now pairs) (now rows)) ⌝ }
+    requires { ⌜ (8192 ≤ length (now work)) × Zero 512 4096 (now work) ⌝ }
+    ensures { λ _. ⌜ Linked (tables (now (sizes .entry)) (now (pairs .entry)) (now (rows .entry))) (now (work .exit)) ⌝ }
+    ensures { λ _. ⌜ Only 192 4096 (now (work .entry)) (now (work .exit)) ⌝ }
+{
+    index_back(sizes, pairs, rows, work);
+    let n = sizes.len();
+    work[192] = 0;
+    let mut at: usize = 0;
+    let mut i: usize = 0;
+    while i < n {
+        at = link_boat(sizes, pairs, rows, i, at, work);
+        work[193 + i] = at as u64;
+        i += 1;
     }
 }
 

@@ -7,6 +7,7 @@ pub use clearing::clear;
 use events::Counts;
 pub use index::index_ahead;
 pub use index::index_back;
+pub use index::link_back;
 pub use index::row_at;
 pub use sets::deepest_of;
 pub use sets::handed_down;

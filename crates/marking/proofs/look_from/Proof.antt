@@ -12,9 +12,9 @@ use Rattle.events.proofs.Leading.{leads-refl, leads-trans}
 use Rattle.methods.specs.Choices.{mayStand}
 use Rattle.words.specs.Layout.{tables, word, indexOf}
 use Rattle.words.proofs.Triangle.{tri-small}
-use Rattle.looking_back.proofs.Indices.{lookOf, index-at, row-there, looked-as}
-use Rattle.looking_back.proofs.Looking.{looks-end, looks-on, looks-off, looks-out}
+use Rattle.looking_back.proofs.Looking.{lookOf, looks-end, looks-on, looks-off, looks-out}
 use Rattle.marking.specs.Looks.{settled, lookingFrom}
+use Rattle.marking.proofs.Indices.{index-at, row-there, looked-as}
 use Rattle.marking.proofs.look_from.Statement.{statement}
 use Rattle.marking.proofs.look_from.Tie as tie
 

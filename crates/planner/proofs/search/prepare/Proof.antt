@@ -1,4 +1,4 @@
--- By the method: the words below 512 and from 4096 on, or those below 192, are 0 still. Assumes nothing.
+-- By the method: the words below 192, or below 512, and those from 4096 on are 0 still. Assumes nothing.
 use mathlib.Core.Path.{_≡_, sym, subst}
 use mathlib.Core.List.{List}
 use Prim.Native.Nat.{ℕ}
@@ -25,24 +25,24 @@ by-way s {w = w} e p = subst (λ (x : Way). Prepared x (T s) (W s) w) (sym e) p
 enum-told : tie.Need-enum-told
 enum-told c = search needs
 
-index-back-requires : tie.Need-index-back-requires
-index-back-requires c κs =
+link-back-requires : tie.Need-link-back-requires
+link-back-requires c κs =
     let s = c .before .before .before .before .before .before .before in
     (s .pre .0, (s .pre .1 .0, λ k lo hi. s .pre .1 .1 k (omega arith) (omega arith)))
 
 enum-told-2 : tie.Need-enum-told-2
 enum-told-2 c = search needs
 
-index-back-requires-2 : tie.Need-index-back-requires-2
-index-back-requires-2 c κs =
+link-back-requires-2 : tie.Need-link-back-requires-2
+link-back-requires-2 c κs =
     let s = c .before .before .before .before .before .before .before in
     (s .pre .0, (s .pre .1 .0, λ k lo hi. s .pre .1 .1 k (omega arith) (omega arith)))
 
 enum-told-3 : tie.Need-enum-told-3
 enum-told-3 c = search needs
 
-index-back-requires-3 : tie.Need-index-back-requires-3
-index-back-requires-3 c κs =
+index-back-requires : tie.Need-index-back-requires
+index-back-requires c κs =
     let s = c .before .before .before .before .before .before .before in
     (s .pre .0, (s .pre .1 .0, λ k lo hi. s .pre .1 .1 k (omega arith) (omega arith)))
 
@@ -65,7 +65,7 @@ returns : tie.Need-returns
 returns c =
     let f = c .before .before in
     let s = f .before .before .before .before .before .before .before .before in
-    by-way s (f .before .before .enum-told .given .1) (prepared-bt (T s) (s .pre .1 .1) (f .index-back .ensures .0) (f .index-back .ensures .1))
+    by-way s (f .before .before .enum-told .given .1) (prepared-bt (T s) (s .pre .1 .1) (f .link-back .ensures .0) (f .link-back .ensures .1))
 
 same-length-2 : tie.Need-same-length-2
 same-length-2 c = search needs
@@ -74,7 +74,7 @@ returns-2 : tie.Need-returns-2
 returns-2 c =
     let f = c .before .before in
     let s = f .before .before .before .before .before .before .before .before in
-    by-way s (f .before .before .enum-told2 .given .1) (prepared-cbj (T s) (s .pre .1 .1) (f .index-back2 .ensures .0) (f .index-back2 .ensures .1))
+    by-way s (f .before .before .enum-told2 .given .1) (prepared-cbj (T s) (s .pre .1 .1) (f .link-back2 .ensures .0) (f .link-back2 .ensures .1))
 
 same-length-3 : tie.Need-same-length-3
 same-length-3 c = search needs
@@ -83,7 +83,7 @@ returns-3 : tie.Need-returns-3
 returns-3 c =
     let f = c .before .before in
     let s = f .before .before .before .before .before .before .before .before in
-    by-way s (f .before .before .enum-told3 .given .1) (prepared-bm (T s) (s .pre .1 .1) (f .index-back3 .ensures .0) (f .index-back3 .ensures .1))
+    by-way s (f .before .before .enum-told3 .given .1) (prepared-bm (T s) (s .pre .1 .1) (f .index-back .ensures .0) (f .index-back .ensures .1))
 
 same-length-4 : tie.Need-same-length-4
 same-length-4 c = search needs
@@ -108,11 +108,11 @@ prepare-spec =
     tie.close
     (tie.spec
     enum-told
-    index-back-requires
+    link-back-requires
     enum-told-2
-    index-back-requires-2
+    link-back-requires-2
     enum-told-3
-    index-back-requires-3
+    index-back-requires
     enum-told-4
     prepare-ahead-requires
     enum-told-5

@@ -14,14 +14,10 @@ use Rattle.events.specs.Counts.{checkCounted}
 use Rattle.methods.specs.Choices.{mayStand}
 use Rattle.methods.proofs.Shown.{may-allowed}
 use Rattle.words.specs.Layout.{word, tri, indexOf, Indexed}
 use Rattle.looking_back.specs.declared.Look.{Look}
-use Rattle.looking_back.specs.declared.Look.the-variants.{On}
-use Rattle.looking_back.specs.Looks.{checkedLook, lookedAt}
-
--- what a look comes to, by the pair
-abbrev pub lookOf : (listed may : Bool) → Counts → Look
-lookOf false may m = On m
-lookOf true may m = checkedLook may (checkCounted m)
+use Rattle.looking_back.specs.Looks.{checkedLook}
+use Rattle.looking_back.proofs.Looking.{lookOf}
+use Rattle.marking.specs.Looks.{lookedAt}
 
 module _ (t : Tables) (h i : ℕ) where
   -- the word itself, where its row begins there

@@ -1,0 +1,81 @@
+-- The links of a boat, for its trials: the next one is the next listed boat, and none left means that no listed boat is left. Assumes nothing.
+use mathlib.Core.Path.{_≡_, refl, sym, ap, _∙_}
+use mathlib.Core.Bool.{Bool, true, false}
+use mathlib.Core.List.{List}
+use mathlib.Core.Option.{Option, none as nobody}
+use Prim.Native.Nat.{ℕ, suc, _+_, _*_, _/_, _%_, _≤_, _<_}
+use native.Mathlib.Omega.{arith}
+use lib.ListN.{length, getD}
+use Rattle.problem.specs.Tables.{Tables, boats, size, lower, place, isListed, start, bit}
+use Rattle.problem.specs.Sane.{Sane}
+use Rattle.problem.proofs.Places.{listed-lt, place-pair, allowed-listed}
+use Rattle.problem.proofs.Starts.{start-within}
+use Rattle.events.specs.Events.{Search}
+use Rattle.methods.specs.Choices.{mayStand}
+use Rattle.methods.proofs.Shown.{may-allowed}
+use Rattle.words.specs.Layout.{word, tri}
+use Rattle.words.specs.Links.{linkOf, Links, none, past, link, Linked}
+use Rattle.words.proofs.Triangle.{tri-small}
+use Rattle.words.proofs.Links.{links-bounds}
+use Rattle.looking_back.proofs.Looking.{from, from-past, from-end}
+
+-- ---- what a link says
+module _ (t : Tables) (h i l : ℕ) (isLink : l ≡ linkOf t h i) (few : h < 64) where
+  pub link-boat : l % 64 ≡ h
+  link-boat = omega (arith, isLink)
+
+  pub link-row : l / 64 ≡ start (t .sizes) (t .pairs) (place (t .pairs) h i)
+  link-row = omega (arith, isLink)
+
+  module _ (listed : isListed (t .pairs) h i ≡ true) (x : ℕ) where
+    -- the row of slot x of boat h is there
+    pub row-there : Sane t → x < size (t .sizes) h → l / 64 + x < length (t .rows)
+    row-there s lx =
+        let k = place (t .pairs) h i in
+        let q = listed-lt (t .pairs) h i listed in
+        let z : size (t .sizes) (lower (t .pairs) k) ≡ size (t .sizes) h = ap (size (t .sizes)) (place-pair (t .pairs) h i q .0) in
+        omega (arith, link-row, z, s .rowWords, start-within (t .sizes) (t .pairs) k q)
+
+    -- its bits say which slots may stand beside slot x of boat h
+    pub row-allows : (a : ℕ) → bit (getD (t .rows) (l / 64 + x) 0) a ≡ mayStand t h x i a
+    row-allows a =
+        ap (λ (n : ℕ). bit (getD (t .rows) (n + x) 0) a) link-row ∙ sym (may-allowed t h x i a ∙ allowed-listed t h x i a listed)
+
+-- ---- from boat h on, the links of boat i are the words from q up to e
+module _ (t : Tables) (w : List ℕ) (i : ℕ) (le : i ≤ length w) where
+  pub record Next (h q e : ℕ) : Type 0 where
+    pub boat : ℕ
+    pub below : boat < i
+    pub listed : isListed (t .pairs) boat i ≡ true
+    pub isLink : word w (512 + q) ≡ linkOf t boat i
+    pub rest : Links t w i i (suc boat) (suc q) e
+    -- the boats before it are unlisted
+    pub passed : (ended : Option ℕ → Search) (a : ℕ) → from ended t w i a h ≡ from ended t w i a boat
+
+  pub next : {h q e : ℕ} → Links t w i i h q e → q < e → Next h q e
+  next none l = absurd (omega arith)
+  next (past {h = h} f x) l =
+      let n = next x l in
+      record {
+        boat = n .boat;
+        below = n .below;
+        listed = n .listed;
+        isLink = n .isLink;
+        rest = n .rest;
+        passed = λ ended a. from-past ended t w i a le h (omega (arith, links-bounds x)) f ∙ n .passed ended a;
+      }
+  next (link {h = h} f g x) l =
+      record { boat = h; below = omega (arith, links-bounds x); listed = f; isLink = g; rest = x; passed = λ ended a. refl }
+
+  pub none-left : {h q e : ℕ} → Links t w i i h q e → e ≤ q → (ended : Option ℕ → Search) (a : ℕ) → from ended t w i a h ≡ ended nobody
+  none-left none l ended a = from-end ended t w i a le i (omega arith)
+  none-left (past {h = h} f x) l ended a = from-past ended t w i a le h (omega (arith, links-bounds x)) f ∙ none-left x l ended a
+  none-left (link f g x) l ended a = absurd (omega (arith, links-bounds x))
+
+-- there are never more than 2,016
+pub links-few : (t : Tables) (w : List ℕ) (i : ℕ) → Linked t w → i < boats t → boats t ≤ 64 → word w (193 + i) ≤ 2016
+unfolding tri
+links-few t w i x l few =
+    let z : 192 + suc i ≡ 193 + i = omega arith in
+    let y : word w (193 + i) ≤ tri (suc i) = rw z at (x .few (suc i) l) in
+    omega (arith, y, tri-small i (omega arith))

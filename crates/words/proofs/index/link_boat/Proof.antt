@@ -1,0 +1,115 @@
+-- The boats passed have their links, and the row's later words are as they were. Assumes nothing.
+use mathlib.Core.Logic.{⊎-elim}
+use Prim.Native.Nat.{_+_, _-_, _≤_, _<_}
+use borrow.Author.Needs.{needs}
+use native.Mathlib.Omega.{arith}
+use lib.ListN.{length}
+use Rattle.words.specs.Layout.{tables, word}
+use Rattle.words.proofs.Triangle.{tri-small}
+use Rattle.words.proofs.Linking.{RowTo, row-none, row-bounds, row-index-few, row-past, row-link, row-all}
+use Rattle.words.proofs.index.link_boat.Statement.{statement}
+use Rattle.words.proofs.index.link_boat.Tie as tie
+
+abbrev Inv-loop : tie.InvT-loop
+Inv-loop sizes pairs rows i from work₀ row to₀ h₀ work to h = RowTo (tables sizes pairs rows) work₀ work i from to h
+
+abbrev μ-loop : tie.MeasureT-loop
+μ-loop sizes pairs rows i from work₀ row to₀ h₀ work to h = i - h
+
+row-at-requires : tie.Need-row-at-requires Inv-loop μ-loop
+row-at-requires c κs = search needs
+
+loop-holds : tie.Need-loop-holds Inv-loop μ-loop
+loop-holds c = row-none _ _ _
+
+-- the word read and the word written are words of the index
+within : (c : tie.In-loop Inv-loop μ-loop)
+    → let l = c .before .loop in
+    (c .before .before .row-at .result + l .h < length (l .work)) × (512 + l .to < length (l .work)) × (c .before .before .row-at .result + l .h < 4096) × (512 + l .to < 4096)
+within c =
+    let s = c .before .before .before .before .before .before .before in
+    omega (arith, tri-small (s .args .i) (omega arith), row-bounds (c .before .loop .inv), c .before .loop .inv .only .long)
+
+add-index : tie.Need-add-index Inv-loop μ-loop
+add-index c = omega (arith, within c)
+
+mul-index : tie.Need-mul-index Inv-loop μ-loop
+mul-index c = omega (arith, within c)
+
+slice-read-index : tie.Need-slice-read-index Inv-loop μ-loop
+slice-read-index c = omega (arith, within (c .before))
+
+few : (c : tie.Then1 Inv-loop μ-loop) → let l = c .before .before .before .loop in word (l .work) (c .before .before .before .before .row-at .result + l .h) ≤ 129025
+few c =
+    let s = c .before .before .before .before .before .before .before .before .before in
+    let l = c .before .before .before .loop in
+    row-index-few (l .inv) (omega arith) (c .before .before .before .before .row-at .ensures) (s .pre .1 .1 (l .h) (omega arith)) (s .pre .0)
+
+sub-work : tie.Need-sub-work Inv-loop μ-loop
+sub-work c = search needs
+
+mul-work : tie.Need-mul-work Inv-loop μ-loop
+mul-work c = omega (arith, few c)
+
+add-work : tie.Need-add-work Inv-loop μ-loop
+add-work c = omega (arith, few c, within (c .before .before))
+
+add-work-2 : tie.Need-add-work-2 Inv-loop μ-loop
+add-work-2 c = omega (arith, within (c .before .before))
+
+mul-work-2 : tie.Need-mul-work-2 Inv-loop μ-loop
+mul-work-2 c = omega (arith, within (c .before .before))
+
+slice-write-work : tie.Need-slice-write-work Inv-loop μ-loop
+slice-write-work c = omega (arith, within (c .before .before))
+
+add-to : tie.Need-add-to Inv-loop μ-loop
+add-to c = omega (arith, within (c .before .before))
+
+add-h : tie.Need-add-h Inv-loop μ-loop
+add-h c = search needs
+
+loop-less : tie.Need-loop-less Inv-loop μ-loop
+loop-less c = search needs
+
+loop-again : tie.Need-loop-again Inv-loop μ-loop
+loop-again c =
+    let s = c .before .before .before .before .before .before .before .before .before in
+    let l = c .before .before .before .loop in
+    let er = c .before .before .before .before .row-at .ensures in
+    let lh : l .h < s .args .i = omega arith in
+    let d = s .pre .1 .1 (l .h) lh in
+    ⊎-elim
+    (λ w. rw (w .1, w .2) (row-link (l .inv) (s .pre .1 .0 .1) er d lh (omega arith) (within (c .before .before) .1)))
+    (λ w. rw (w .1, w .2) (row-past (l .inv) (s .pre .1 .0 .1) er d lh (w .0 .left)))
+    (c .if1 .came)
+
+same-length : tie.Need-same-length Inv-loop μ-loop
+same-length c = c .before .loop .inv .only .long
+
+returns : tie.Need-returns Inv-loop μ-loop
+returns c = row-all (c .before .loop .inv) (omega arith) (c .loop-test .left)
+
+pub link-boat-spec : {M : Type 1} → statement M
+link-boat-spec =
+    tie.close
+    (tie.spec
+    Inv-loop
+    μ-loop
+    row-at-requires
+    loop-holds
+    add-index
+    mul-index
+    slice-read-index
+    sub-work
+    mul-work
+    add-work
+    add-work-2
+    mul-work-2
+    slice-write-work
+    add-to
+    add-h
+    loop-less
+    loop-again
+    same-length
+    returns)
