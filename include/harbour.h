@@ -2,9 +2,12 @@
  *
  * A harbour is three tables:
  *   sizes   one byte for each boat: how many slots it has, 1 to 64; at most 64 boats
- *   pairs   two bytes for each listed pair of boats, the lower boat first; pairs rise
- *   rows    for each pair, in order, one word for each slot of the lower boat: bit b says that
- *           slot b of the higher boat may stand with it; a forbidden slot's bit is 0
+ *   pairs   two bytes for each listed pair of boats, the lower boat first; pairs rise strictly, by
+ *           lower boat, then by higher
+ *   rows    for each pair, in order, one word for each slot of the lower boat: bit b is set where
+ *           the higher boat may take its slot b beside it
+ * Boats, slots, pairs and words, and so all places, count from 0. A pair that is not listed allows
+ * everything.
  *
  * What a caller owes, in every call: each part is valid for its length (for writing too, where it
  * is not const), words are aligned as uint64_t, no part overlaps another, and nobody else changes
@@ -50,7 +53,7 @@ extern "C" {
 #define HARBOUR_UNBROKEN UINT64_C(0)
 #define HARBOUR_BROKEN UINT64_C(1)                 /* place: the index of the lowest broken pair */
 
-/* refusals, in the order in which they are tested; place is 0 where none is named */
+/* refusals, in the order in which they are tested */
 #define HARBOUR_REFUSED UINT64_C(100)                 /* what is added to a refusal's number */
 #define HARBOUR_REFUSED_METHOD UINT64_C(101)          /* no method has this number */
 #define HARBOUR_REFUSED_BOATS UINT64_C(102)           /* more than 64 boats */
@@ -64,13 +67,17 @@ extern "C" {
 #define HARBOUR_REFUSED_GIVEN_LENGTH UINT64_C(110)    /* the given plan has not one byte for each boat */
 #define HARBOUR_REFUSED_GIVEN_SLOT UINT64_C(111)      /* a given slot is past its boat's; place: the boat */
 
+/* Place is 0 where none is named. The counts are those of a run; they are 0 on a refusal and
+ * outside harbour_run. */
 typedef struct {
     uint64_t answer, place, checks, trials;
 } harbour_reply;
 
 /* Runs a method under allowances of checks and trials. Solved: the first lawful plan, boat by boat
- * and lowest slot first, is in the first n bytes of plan. Any other answer leaves plan alone. A run
- * that is not refused leaves the first 8,192 words of work 0; a refused one leaves work alone. */
+ * and lowest slot first, is in the first n bytes of plan, and the bytes after them stay as they were.
+ * Any other answer leaves all of plan as it was. A run that is not refused leaves the first 8,192
+ * words of work 0 and those after them as they were; what they held before has no effect. A refused
+ * run leaves all of work as it was. */
 harbour_reply harbour_run(uint64_t method, const uint8_t *sizes, size_t n, const uint8_t *pairs, size_t pair_bytes,
     const uint64_t *rows, size_t row_words, uint8_t *plan, size_t plan_bytes, uint64_t *work, size_t work_words,
     uint64_t checks, uint64_t trials);

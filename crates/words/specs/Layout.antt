@@ -1,9 +1,10 @@
 -- The working words: where a run keeps what it remembers in the first 8,192 of them. Assumes nothing.
 --   i                  the slot in hand of boat i
 --   64 + i             CBJ, FC-CBJ: the conflict set of boat i; BM: its b
---   192 + i            FC, FC-CBJ: the first listed pair with boat i, or a later one, as its lower boat (i from 0 to n)
+--   192 + i            FC, FC-CBJ: the first listed pair with boat i, or a later one, as its lower boat (i from 0 to n); BT, CBJ: its first link
 --   320 + i            FC, FC-CBJ: the word where the rows of that pair begin
---   512 + tri i + h    BT, CBJ, BM: for boats h below i, one more than the word where the rows of their pair begin; 0 where it is not listed
+--   512 + tri i + h    BM: for boats h below i, one more than the word where the rows of their pair begin; 0 where it is not listed
+--   512 + q            BT, CBJ: the links of the boats, one boat after the other (Links.antt)
 --   4096 + 64 i + k    BM: the mark of slot k of boat i; FC, FC-CBJ: the live slots of boat k as they are before boat i's trial
 use mathlib.Core.Path.{_≡_}
 use mathlib.Core.Logic.{_⊎_}
@@ -39,7 +40,7 @@ Zero from to w = (k : ℕ) → from ≤ k → k < to → word w k ≡ 0
 abbrev pub Placed : Tables → List ℕ → ℕ → Type 0
 Placed t w i = (h : ℕ) → h < i → word w h < size (t .sizes) h
 
--- ---- the index for looking back
+-- ---- the index of pairs, from which links are made
 -- 0 + 1 + .. + (i - 1)
 unfoldable pub tri : ℕ → ℕ
 tri zero = 0

@@ -1,0 +1,84 @@
+# make run      builds the library, proved, and an example; plans a harbour with it
+# make outside  holds the library, through its C header, to the second program and to lists of due
+#               answers: SECONDS=n says how long fresh seeds are drawn, SEED=n repeats a run
+# make bench    times the library beside a plain C search
+# make vectors  writes the stored problems and replies of crates/vectors anew
+# make gate     proves every crate from nothing, tries the must-fail edits, runs the programs
+# make clean    removes all that was built and proved
+
+SHELL := bash
+.SHELLFLAGS := -o pipefail -c
+
+CFLAGS = -std=c11 -D_POSIX_C_SOURCE=200809L -O2 -Wall -Wextra -Werror
+CXXFLAGS = -std=c++17 -O2 -Wall -Wextra -Werror
+SANITIZED = -O1 -g -fsanitize=address,undefined -fno-sanitize-recover=all
+
+LIBRARY = target/staticlib/libharbour.a
+SECOND = target/second/release/second
+EXAMPLE = target/example/harbour
+OUTSIDE = target/outside
+
+SECONDS = 60
+SEED := $(shell date +%s)
+
+.PHONY: run outside bench vectors gate clean
+
+run: $(EXAMPLE)
+	@$(EXAMPLE)
+
+# Every crate that is no program; rt goes through them all and proves only what has changed.
+PROGRAMS := $(patsubst %/src/main.rt,%,$(wildcard crates/*/src/main.rt))
+CRATES := $(filter-out $(PROGRAMS),$(wildcard crates/*))
+PROVED := crates.txt $(shell find $(CRATES) -name '*.rt' -o -name '*.antt')
+
+$(LIBRARY): $(PROVED)
+	@echo 'proving the library: some minutes the first time'
+	@mkdir -p target
+	@rt staticlib harbour 2>&1 | tee target/harbour.log | grep --line-buffered '^rt:' || { cat target/harbour.log; exit 1; }
+
+$(EXAMPLE): $(wildcard example/*.[ch]) include/harbour.h $(LIBRARY)
+	@mkdir -p $(@D)
+	@$(CC) $(CFLAGS) -Iinclude -o $@ $(wildcard example/*.c) $(LIBRARY)
+
+$(SECOND): $(shell find outside/second -name '*.rs' -o -name 'Cargo.*')
+	@cargo build --quiet --offline --release --manifest-path outside/second/Cargo.toml --target-dir target/second
+
+# The calls' files are compiled twice, as C and as C++; each language has a main file of its own.
+LENT := $(wildcard outside/lent/*.c)
+CALLS := $(filter-out outside/calls/calls.c,$(wildcard outside/calls/*.c)) $(LENT)
+ANSWERING := $(wildcard outside/library/*.c) $(LENT)
+HEADERS := include/harbour.h $(wildcard outside/lent/*.h outside/calls/*.h outside/library/*.h)
+INCLUDED = -Iinclude -Ioutside/lent
+CHECKED = $(OUTSIDE)/calls_c $(OUTSIDE)/calls_cpp $(OUTSIDE)/library
+BUILT = $(CHECKED) $(CHECKED:$(OUTSIDE)/%=$(OUTSIDE)/sanitized/%)
+
+$(OUTSIDE)/sanitized/%: CFLAGS += $(SANITIZED)
+$(OUTSIDE)/sanitized/%: CXXFLAGS += $(SANITIZED)
+
+$(filter %/calls_c,$(BUILT)): outside/calls/calls.c $(CALLS) $(HEADERS) $(LIBRARY)
+	@mkdir -p $(@D)
+	@$(CC) $(CFLAGS) $(INCLUDED) -o $@ outside/calls/calls.c $(CALLS) $(LIBRARY)
+
+$(filter %/calls_cpp,$(BUILT)): outside/calls/calls.cpp $(CALLS) $(HEADERS) $(LIBRARY)
+	@mkdir -p $(@D)
+	@$(CXX) $(CXXFLAGS) $(INCLUDED) -o $@ -x c++ outside/calls/calls.cpp $(CALLS) -x none $(LIBRARY)
+
+$(filter %/library,$(BUILT)): $(ANSWERING) $(HEADERS) $(LIBRARY)
+	@mkdir -p $(@D)
+	@$(CC) $(CFLAGS) $(INCLUDED) -o $@ $(ANSWERING) $(LIBRARY)
+
+outside: $(SECOND) $(BUILT)
+	@bash outside/compare.sh $(SEED) $(SECONDS)
+
+bench: $(LIBRARY)
+	@$(MAKE) --no-print-directory -C bench
+
+vectors: $(SECOND)
+	$(SECOND) vectors problems > crates/vectors/stdin
+	$(SECOND) vectors replies > crates/vectors/stdout
+
+gate:
+	@bash .ci/run
+
+clean:
+	rm -rf target

@@ -1,0 +1,34 @@
+/* A call with lent memory, held to its due reply and to what it may change. */
+#ifndef ASKED_H
+#define ASKED_H
+
+#include "harbour.h"
+#include "tables.h"
+
+/* All that a run is given beside the tables. */
+typedef struct {
+    uint64_t method;
+    size_t plan_bytes, work_words;
+    uint64_t checks, trials;
+} terms;
+
+/* Just enough memory, and allowances that never run out. */
+terms ample(uint64_t method, const tables *given);
+
+harbour_reply due_reply(uint64_t answer, uint64_t place, uint64_t checks, uint64_t trials);
+
+/* The due plan is NULL unless solved. */
+void run_is(const char *what, const tables *given, terms under, harbour_reply due, const uint8_t *plan);
+
+void examine_is(const char *what, const tables *given, uint64_t answer, uint64_t place);
+void lawful_is(const char *what, const tables *given, const uint8_t *plan, size_t bytes,
+    uint64_t answer, uint64_t place);
+void broken_is(const char *what, const tables *given, const uint8_t *plan, size_t bytes,
+    uint64_t answer, uint64_t place);
+void rows_are(const char *what, const tables *given, uint64_t lower, uint64_t higher,
+    uint64_t start, uint64_t length);
+
+/* Tables that every function refuses, under every method. */
+void refused_by_all(const char *what, const tables *given, uint64_t answer, uint64_t place);
+
+#endif
