@@ -10,7 +10,7 @@ use crate::tables::{Tables, WORKING_WORDS};
 /// Checks and trials beyond which a table isn't followed further.
 fn cap_of(kind: &str) -> u64 {
     match kind {
-        "wide" => 20_000,
+        "wide" | "crowded" => 20_000,
         "full" | "bad" => 200_000,
         _ => 2_000_000,
     }

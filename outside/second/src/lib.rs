@@ -19,5 +19,6 @@ pub mod run;
 pub mod selftest;
 pub mod shapes;
 pub mod spoil;
+pub mod stored;
 pub mod tables;
 pub mod vectors;

@@ -1,8 +1,13 @@
 //! second run                    answers problems from standard input, one reply line for each
 //! second gen KIND SEED COUNT    writes COUNT problem lines (kinds: tiny small phase sparse dense
-//!                               wide full bad)
+//!                               wide crowded full bad)
 //! second selftest SEED COUNT    compares with brute force and with itself on COUNT tables
 //! second cases                  prints the document's cases and the further vectors
+//! second vectors problems       writes the stored set, which stored/mod.rs describes
+//! second vectors replies        writes the reply to each of its lines
+//! second fresh problems KIND SEED COUNT    writes COUNT tables of a kind with the same questions
+//! second fresh replies KIND SEED COUNT     writes the reply to each of those lines
+//! second kinds                  writes the kinds' names
 //!
 //! A problem is one line of eight fields, separated by spaces; a lone '|' between fields is written
 //! for the eye and skipped when read:
@@ -31,8 +36,12 @@ use second::cases::all_lines;
 use second::generate::generate;
 use second::problem::{reply_line, Problem};
 use second::selftest::selftest;
+use second::shapes::KINDS;
+use second::stored::{fresh, groups, problem_lines, reply_lines, Group};
 
-const USAGE: &str = "second run | gen KIND SEED COUNT | selftest SEED COUNT | cases";
+const USAGE: &str =
+    "second run | gen KIND SEED COUNT | selftest SEED COUNT | cases | vectors problems | vectors replies
+    | fresh problems KIND SEED COUNT | fresh replies KIND SEED COUNT | kinds";
 
 fn main() -> ExitCode {
     let words: Vec<String> = std::env::args().skip(1).collect();
@@ -42,6 +51,11 @@ fn main() -> ExitCode {
         ["gen", kind, seed, count] => with_numbers(seed, count, |seed, count| gen(kind, seed, count)),
         ["selftest", seed, count] => with_numbers(seed, count, test_itself),
         ["cases"] => print_cases(),
+        ["vectors", "problems"] => write_text(&problem_lines(&groups())),
+        ["vectors", "replies"] => write_text(&reply_lines(&groups())),
+        ["fresh", "problems", kind, seed, count] => write_fresh(kind, seed, count, problem_lines),
+        ["fresh", "replies", kind, seed, count] => write_fresh(kind, seed, count, reply_lines),
+        ["kinds"] => write_text(&format!("{}\nbad\n", KINDS.join("\n"))),
         _ => Err(io::Error::other(USAGE)),
     };
     match done {
@@ -95,6 +109,18 @@ fn test_itself(seed: u64, count: u64) -> io::Result<bool> {
         tally.tables, tally.with_plan, tally.comparisons, tally.differed
     );
     Ok(tally.differed == 0)
+}
+
+fn write_text(text: &str) -> io::Result<bool> {
+    io::stdout().lock().write_all(text.as_bytes())?;
+    Ok(true)
+}
+
+fn write_fresh(kind: &str, seed: &str, count: &str, text: fn(&[Group]) -> String) -> io::Result<bool> {
+    with_numbers(seed, count, |seed, count| match fresh(kind, seed, count as usize) {
+        Some(groups) => write_text(&text(&groups)),
+        None => Err(io::Error::other(format!("no such kind: {kind}"))),
+    })
 }
 
 fn print_cases() -> io::Result<bool> {

@@ -21,7 +21,6 @@ impl Problem {
     }
 
     pub fn line(&self) -> String {
-        let words: Vec<String> = self.tables.rows.iter().map(|row| format!("{row:x}")).collect();
         format!(
             "{} {} {} {} {} | {} | {} | {}",
             self.method,
@@ -31,7 +30,7 @@ impl Problem {
             self.work_len,
             hex(&self.tables.sizes),
             hex(&self.tables.pairs),
-            or_dash(words.join(","))
+            hex_words(&self.tables.rows)
         )
     }
 
@@ -68,8 +67,13 @@ fn or_dash(text: String) -> String {
     text
 }
 
-fn hex(bytes: &[u8]) -> String {
+pub fn hex(bytes: &[u8]) -> String {
     or_dash(bytes.iter().map(|byte| format!("{byte:02x}")).collect())
+}
+
+pub fn hex_words(words: &[u64]) -> String {
+    let words: Vec<String> = words.iter().map(|word| format!("{word:x}")).collect();
+    or_dash(words.join(","))
 }
 
 fn decimal(field: &str) -> Result<u64, String> {

@@ -3,7 +3,7 @@
 use crate::random::Random;
 use crate::tables::Tables;
 
-pub const KINDS: [&str; 7] = ["tiny", "small", "phase", "sparse", "dense", "wide", "full"];
+pub const KINDS: [&str; 8] = ["tiny", "small", "phase", "sparse", "dense", "wide", "crowded", "full"];
 
 /// What a random table is drawn from; the last two are in thousandths.
 struct Shape {
@@ -22,6 +22,7 @@ pub fn random_tables(random: &mut Random, kind: &str) -> Option<Tables> {
         "sparse" => sparse(random),
         "dense" => dense(random),
         "wide" => wide(random),
+        "crowded" => crowded(random),
         "full" => full(random),
         _ => return None,
     };
@@ -62,6 +63,11 @@ fn wide(random: &mut Random) -> Shape {
     let (high, listed) = (random.between(1, 5), random.between(3, 40));
     let shut = random.one_of(&[50, 150, 250, 400, 550, 700]);
     Shape { boats: 64, sizes: (high.min(2), high), listed, shut }
+}
+
+/// All 2,016 pairs of few slots each; near 35 thousandths shut one lawful plan is expected.
+fn crowded(random: &mut Random) -> Shape {
+    Shape { boats: 64, sizes: (2, 4), listed: 1000, shut: random.between(5, 40) }
 }
 
 /// Every limit at once: 64 boats of size 64 and all 2,016 pairs; a line is about two million bytes.
