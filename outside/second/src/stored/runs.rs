@@ -20,18 +20,29 @@ fn enough(random: &mut Random, tables: &Tables) -> (usize, usize) {
     (plan_len, WORKING_WORDS + random.one_of(&[0, 0, 1, 1000]))
 }
 
-/// Every count at which a run can be cut: this tells the order of its trials and checks.
+/// Every count at which a run can be cut, alone and as both allowances: this tells the order of its
+/// trials and checks. Then what is exact for each method, since the others must not need more or
+/// may run out.
 pub fn every_cut(random: &mut Random, tables: &Tables) -> Vec<Question> {
+    let exact: Vec<(u64, u64)> = (1..=5).map(|method| exact(method, tables)).collect();
     let mut questions = Vec::new();
     for method in 1..=5 {
-        let ample = Terms::new(method, (AMPLE, AMPLE), (tables.boats(), WORKING_WORDS));
-        let Reply { checks, trials, .. } = reply_to(tables, &ample);
-        let mut list = vec![(AMPLE, AMPLE), (checks, trials)];
+        let (checks, trials) = exact[method as usize - 1];
+        let mut list = vec![(AMPLE, AMPLE)];
         list.extend((0..checks).map(|allowed| (allowed, AMPLE)));
         list.extend((0..trials).map(|allowed| (AMPLE, allowed)));
+        list.extend((0..checks.max(trials)).map(|allowed| (allowed, allowed)));
+        list.extend(&exact);
         questions.extend(list.into_iter().map(|allowed| run(method, allowed, enough(random, tables))));
     }
     questions
+}
+
+/// The counts of a run that nothing cuts.
+fn exact(method: u64, tables: &Tables) -> (u64, u64) {
+    let ample = Terms::new(method, (AMPLE, AMPLE), (tables.boats(), WORKING_WORDS));
+    let Reply { checks, trials, .. } = reply_to(tables, &ample);
+    (checks, trials)
 }
 
 /// Ample, exact, one less than exact, none, and random smaller allowances, by every method.

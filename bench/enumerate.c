@@ -1,0 +1,36 @@
+/* All plans of some tables, one after the other. */
+#include "tables.h"
+
+#include <string.h>
+
+/* Do the slots of boats 0 to i keep the pairs among them that have i as the higher boat? */
+static int keeps(const tables *t, const uint8_t *slots, size_t i)
+{
+    const uint64_t *rows = t->rows;
+    for (size_t k = 0; k < t->pairs; k++) {
+        size_t lower = t->pair[2 * k];
+        if (t->pair[2 * k + 1] == i && !(rows[slots[lower]] >> slots[i] & 1))
+            return 0;
+        rows += t->sizes[lower];
+    }
+    return 1;
+}
+
+static uint64_t count_from(const tables *t, uint8_t *slots, size_t i, uint64_t found, uint8_t *plan)
+{
+    if (i == t->boats) {
+        if (!found)
+            memcpy(plan, slots, i);
+        return found + 1;
+    }
+    for (slots[i] = 0; slots[i] < t->sizes[i]; slots[i]++)
+        if (keeps(t, slots, i))
+            found = count_from(t, slots, i + 1, found, plan);
+    return found;
+}
+
+uint64_t count_plans(const tables *t, uint8_t *plan)
+{
+    uint8_t slots[BOATS];
+    return count_from(t, slots, 0, 0, plan);
+}

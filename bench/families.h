@@ -1,0 +1,20 @@
+/* The problems of the benchmark, in families. */
+#ifndef FAMILIES_H
+#define FAMILIES_H
+
+#include "tables.h"
+
+typedef struct {
+    const char *name;
+    unsigned files;
+    uint64_t allowance; /* of checks, and of trials */
+    void (*make)(tables *t, unsigned file);
+} family;
+
+extern const family families[];
+extern const unsigned family_count;
+
+/* Of all families. */
+unsigned file_count(void);
+
+#endif
