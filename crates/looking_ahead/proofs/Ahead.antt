@@ -3,8 +3,9 @@ use mathlib.Core.Path.{_≡_, refl, sym, ap, _∙_, subst}
 use mathlib.Core.Bool.{Bool, true, false, _&&_, _||_, and-true}
 use mathlib.Core.List.{List, [], _∷_, _++_}
 use mathlib.Core.Option.{Option, none, some}
-use Prim.Native.Nat.{ℕ, suc, _+_, _-_, _*_, _^_, _≤_, _<_}
+use Prim.Native.Nat.{ℕ, zero, suc, _+_, _-_, _*_, _^_, _≤_, _<_}
 use native.Mathlib.Omega.{arith}
+use native.Mathlib.Decide.{decLt}
 use native.Mathlib.Nat.{le-refl, le-of-lt}
 use native.Mathlib.Numerals.{add-one}
 use lib.Bits.{bitOr}
@@ -133,6 +134,29 @@ module _ {t : Tables} {w : List ℕ} {i : ℕ} {jumps : Bool} {a s : ℕ} {x : B
 
     pub no-trial : r ≡ Out n → cutAt m y ≡ outcome (undecided Trials) (n .checks) (n .trials)
     no-trial f = c .leads .same ∙ ap (cutAt k) (begun e) ∙ trial-out k n _ (c .leads .fits) i a (sym counted ∙ f)
+
+-- ---- dead slots are passed over, so many from slot a on
+dead-passed : {t : Tables} {w : List ℕ} {i : ℕ} (ready : Ready t w i) (jumps : Bool) (a s n : ℕ) {m k : Counts} {y : Search} →
+    ((b : ℕ) → a ≤ b → b < a + n → bit (word w (4096 + 65 * i)) b ≡ false) → Leads m y k (here t (aheadByPlan t) jumps w i a s) →
+    Leads m y k (here t (aheadByPlan t) jumps w i (a + n) s)
+dead-passed ready jumps a s zero dead h = let z : a + 0 ≡ a = omega arith in rw z h
+dead-passed {t} {w} {i} ready jumps a s (suc n) {m} {k} {y} dead h =
+    let z : a + suc n ≡ a + n + 1 = omega arith in
+    rw z (by (dead-passed ready jumps a s n (λ b lo hi. dead b lo (omega arith)) h) (decLt (a + n) (size (t .sizes) i)))
+  where
+    by : Leads m y k (here t (aheadByPlan t) jumps w i (a + n) s) → Dec (a + n < size (t .sizes) i) → Leads m y k (here t (aheadByPlan t) jumps w i (a + n + 1) s)
+    by l (yes lt) = passed-over {t = t} {w = w} {i = i} {jumps = jumps} {a = a + n} {s = s} (record { ready = ready; slot = lt; bitIs = refl; leads = l }) (dead (a + n) (omega arith) (omega arith))
+    by l (no nl) =
+        leads-trans (visit-spent ready jumps (a + n) s l (omega arith))
+        (leads-eq k _ _ (l .fits) (sym (here-spent t (aheadByPlan t) jumps w i (short ready) (ready .boat) (a + n + 1) s (omega arith))))
+
+-- up to slot b
+pub dead-to : {t : Tables} {w : List ℕ} {i : ℕ} (ready : Ready t w i) (jumps : Bool) (a s b : ℕ) {m k : Counts} {y : Search} → a ≤ b →
+    ((c : ℕ) → a ≤ c → c < b → bit (word w (4096 + 65 * i)) c ≡ false) → Leads m y k (here t (aheadByPlan t) jumps w i a s) →
+    Leads m y k (here t (aheadByPlan t) jumps w i b s)
+dead-to ready jumps a s b le dead h =
+    let z : a + (b - a) ≡ b = omega arith in
+    rw z at (dead-passed ready jumps a s (b - a) (λ c lo hi. dead c lo (omega arith)) h)
 
 -- ---- after the sweep of slot a, which went from the words v to the words v′
 pub record AfterSweep (t : Tables) (w : List ℕ) (i : ℕ) (jumps : Bool) (a s : ℕ) (m : Counts) (y : Search) (k : Counts) (v v′ : List ℕ) (r : Swept) : Type 0 where

@@ -1,11 +1,12 @@
 -- Words by their bits. Assumes nothing.
 use mathlib.Core.Path.{_≡_, refl, sym, ap, _∙_}
-use mathlib.Core.Bool.{Bool, _&&_, and-assoc, and-comm}
-use Prim.Native.Nat.{ℕ, zero, suc, _-_, _/_, _%_, _^_, _<_}
+use mathlib.Core.Bool.{Bool, false, _&&_, and-assoc, and-comm}
+use Prim.Native.Nat.{ℕ, zero, suc, _+_, _-_, _/_, _%_, _^_, _≤_, _<_}
 use native.Mathlib.Omega.{arith}
-use native.Mathlib.Nat.{mod-lt, zero-lt-suc, pow-suc}
+use native.Mathlib.Nat.{mod-lt, zero-lt-suc, pow-suc, le-of-suc-le-suc}
 use lib.Dec.{ltb, eqb, leb·suc-suc}
 use lib.Pow.{pow-pos, shr-shr}
+use lib.Count.{trailingZeros, under}
 use borrow.Author.Tests.{eq-eqb, lt-ltb, le-ltb}
 use Rattle.problem.specs.Tables.{bit}
 use Rattle.problem.proofs.Lowest.{not-both}
@@ -43,3 +44,21 @@ bit-ones (suc n) zero =
 bit-ones (suc n) (suc b) =
     let half : (2 ^ suc n - 1) / 2 ≡ 2 ^ n - 1 = omega (arith, pow-suc 2 n, pow-pos n) in
     sym (bit-half (2 ^ suc n - 1) b) ∙ ap (λ (x : ℕ). bit x b) half ∙ bit-ones n b ∙ sym (leb·suc-suc (suc b) n)
+
+-- ---- the digits below the lowest that is set
+pub below-trailing : (n w k : ℕ) → k < trailingZeros n w → bit w k ≡ false
+unfolding trailingZeros
+below-trailing zero w k l = absurd (omega arith)
+below-trailing (suc n) w k l = by (w % 2) refl k l (below-trailing n (w / 2))
+  where
+    by : (r : ℕ) → w % 2 ≡ r → (k : ℕ) → k < under r (trailingZeros n (w / 2)) → ((j : ℕ) → j < trailingZeros n (w / 2) → bit (w / 2) j ≡ false) → bit w k ≡ false
+    by zero e zero lk rec = let d : w / 1 ≡ w = omega arith in rw (d, e)
+    by zero e (suc k) lk rec = sym (bit-half w k) ∙ rec k (le-of-suc-le-suc lk)
+    by (suc r) e k lk rec = absurd (omega arith)
+
+-- the same in a word that is shifted down
+pub below-shifted : (w from k : ℕ) → from ≤ k → k < from + trailingZeros 64 (w / 2 ^ from) → bit w k ≡ false
+below-shifted w from k l h =
+    let z : from + (k - from) ≡ k = omega arith in
+    sym (ap (λ (n : ℕ). eqb (n % 2) 1) (shr-shr w from (k - from) ∙ ap (λ (n : ℕ). w / 2 ^ n) z))
+    ∙ below-trailing 64 (w / 2 ^ from) (k - from) (omega arith)

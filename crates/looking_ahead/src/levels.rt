@@ -52,11 +52,14 @@ pub fn blamers(work: &[u64], i: usize, j: usize) -> u64
     ensures { λ r. ⌜ LostAt (now (work .entry)) i j r ⌝ }
 {
     let mut set: u64 = 0;
+    let mut before = work[4096 + j];
     let mut g: usize = 0;
     while g < i {
-        if work[4096 + 64 * g + j] != work[4160 + 64 * g + j] {
+        let after = work[4160 + 64 * g + j];
+        if before != after {
             set = words::with_member(set, g);
         }
+        before = after;
         g += 1;
     }
     set

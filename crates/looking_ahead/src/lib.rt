@@ -12,6 +12,7 @@ ghost use Rattle.looking_ahead.specs.Lives.{Lives, Copied};
 ghost use Rattle.looking_ahead.specs.Ahead.{LivesAfter};
 
 mod levels;
+mod slots;
 mod sweep;
 
 use events::Counted;
@@ -64,7 +65,7 @@ pub fn visit(
                 Swept::Out(k) => return Visited::OutOfChecks(k),
             }
         }
-        slot += 1;
+        slot = slots::next_live(live, slot + 1);
     }
     Visited::Spent(set, counts)
 }

@@ -1,7 +1,7 @@
 -- Each slot passed leads on to the next one; the words of the lower levels stay as they were. Assumes nothing.
 use mathlib.Core.List.{List}
 use mathlib.Core.Logic.{inl, inr}
-use Prim.Native.Nat.{ℕ, _-_, _^_, _≤_, _<_}
+use Prim.Native.Nat.{ℕ, _+_, _-_, _^_, _≤_, _<_}
 use borrow.Author.Needs.{needs}
 use native.Mathlib.Omega.{arith}
 use lib.Bits.{or-lt}
@@ -13,7 +13,7 @@ use Rattle.methods.proofs.ByPlan.{aheadByPlan}
 use Rattle.words.specs.Layout.{tables}
 use Rattle.words.specs.Visits.{here}
 use Rattle.words.proofs.Only.{only-refl}
-use Rattle.looking_ahead.proofs.Ahead.{Kept, Ready, kept-lives, kept-now, kept-firsts, visit-spent, AtSlot, passed-over, trial-made, no-trial, AfterSweep, kept-after, swept-clear, clear-lives, swept-out, emptied-boat, emptied-steps, emptied-jumps}
+use Rattle.looking_ahead.proofs.Ahead.{Kept, Ready, dead-to, kept-lives, kept-now, kept-firsts, visit-spent, AtSlot, passed-over, trial-made, no-trial, AfterSweep, kept-after, swept-clear, clear-lives, swept-out, emptied-boat, emptied-steps, emptied-jumps}
 use Rattle.looking_ahead.proofs.visit.Statement.{statement}
 use Rattle.looking_ahead.proofs.visit.Tie as tie
 
@@ -169,14 +169,14 @@ returns-3 c =
     let w = c .before .before .before .before .before in
     (swept-out (swept w) (c .before .k4 .given .1), (tt, kept-after (swept w) .only))
 
-add-slot : tie.Need-add-slot Inv-loop μ-loop
-add-slot c = search needs
-
-loop-less : tie.Need-loop-less Inv-loop μ-loop
-loop-less c = search needs
-
-loop-again : tie.Need-loop-again Inv-loop μ-loop
-loop-again c =
+-- the next slot is due, before the dead ones are passed over
+due : (c : tie.Joined1 Inv-loop μ-loop) →
+    let b = c .before in
+    let s = entry (b .before .before) in
+    Kept (T s) (W s) (s .args .i) (c .if1 .work)
+    × (c .if1 .set < 2 ^ s .args .i)
+    × Leads (s .args .start) (begin s) (c .if1 .counts) (here (T s) (aheadByPlan (T s)) (s .args .jumps) (W s) (s .args .i) (b .before .before .loop .slot + 1) (c .if1 .set))
+due c =
     let b = c .before in
     let l = b .before .before .loop in
     elim (c .if1 .came) [
@@ -187,16 +187,36 @@ loop-again c =
           rw (z .15, z .16, z .17) (
             kept-after (swept w),
             or-lt (entry (b .before .before) .args .i) _ _ (l .inv .1) (z .14 .ensures .below),
-            omega (arith, l .inv .2),
             emptied-jumps (swept w) (z .10 .given .1) (λ n. z .8 .given n .fits) (z .14 .ensures),
           )
       | inr (inl z) ↦
           let x : tie.After-known-told Inv-loop μ-loop =
           record { before = record { before = record { before = record { before = record { before = b; if1 = z .0 }; trial = z .1 }; match = z .2 }; k = z .3 }; known-told = z .4 } in
           let w : tie.After-sweep Inv-loop μ-loop = record { before = record { before = x; sweep-arg = z .5 }; sweep = z .6 } in
-          rw (z .13, z .14, z .15) (kept-after (swept w), l .inv .1, omega (arith, l .inv .2), emptied-steps (swept w) (z .10 .given .1) (z .12 .left))
-      | inr (inr z) ↦ rw (z .1, z .2, z .3) (l .inv .0, l .inv .1, omega (arith, l .inv .2), passed-over (at b) (z .0 .left))
+          rw (z .13, z .14, z .15) (kept-after (swept w), l .inv .1, emptied-steps (swept w) (z .10 .given .1) (z .12 .left))
+      | inr (inr z) ↦ rw (z .1, z .2, z .3) (l .inv .0, l .inv .1, passed-over (at b) (z .0 .left))
     ]
+
+add-next-live : tie.Need-add-next-live Inv-loop μ-loop
+add-next-live c = search needs
+
+next-live-requires : tie.Need-next-live-requires Inv-loop μ-loop
+next-live-requires c κs =
+    let b = c .before in
+    let s = entry (b .before .before) in
+    omega (arith, in-size (b .before), s .pre .0 .fewSlots (s .args .i) (s .pre .1 .0 .0))
+
+loop-less : tie.Need-loop-less Inv-loop μ-loop
+loop-less c = omega (arith, c .next-live .ensures .0, c .before .before .before .loop-test .taken)
+
+loop-again : tie.Need-loop-again Inv-loop μ-loop
+loop-again c =
+    let b = c .before .before in
+    let l = b .before .before .loop in
+    let s = entry (b .before .before) in
+    let d = due (c .before) in
+    let n = c .next-live .ensures in
+    (d .0, d .1, omega (arith, l .inv .2, n .0), dead-to (ready s) (s .args .jumps) (l .slot + 1) _ _ (n .0) (n .2) (d .2))
 
 same-length-4 : tie.Need-same-length-4 Inv-loop μ-loop
 same-length-4 c = c .before .loop .inv .0 .only .long
@@ -239,7 +259,8 @@ visit-spec =
     enum-known-k-4
     same-length-3
     returns-3
-    add-slot
+    add-next-live
+    next-live-requires
     loop-less
     loop-again
     same-length-4

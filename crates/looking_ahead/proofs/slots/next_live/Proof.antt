@@ -1,0 +1,29 @@
+-- The slots passed over are digits below the lowest that is set. Assumes nothing.
+use Prim.Native.Nat.{_/_, _^_, _≤_}
+use borrow.Author.Needs.{needs}
+use native.Mathlib.Omega.{arith}
+use lib.Count.{trailingZeros, trailing-le}
+use Rattle.looking_ahead.proofs.Words.{below-shifted}
+use Rattle.looking_ahead.proofs.slots.next_live.Statement.{statement}
+use Rattle.looking_ahead.proofs.slots.next_live.Tie as tie
+
+returns : tie.Need-returns
+returns c = (omega arith, omega arith, λ k lo hi. absurd (omega arith))
+
+shr-result : tie.Need-shr-result
+shr-result c = search needs
+
+few : (c : tie.Else1) → trailingZeros 64 (c .before .args .live / 2 ^ c .before .args .from) ≤ 64
+few c = trailing-le 64 (c .before .args .live / 2 ^ c .before .args .from)
+
+cast-result : tie.Need-cast-result
+cast-result c = omega (arith, few c)
+
+add-result : tie.Need-add-result
+add-result c = omega (arith, few c, c .before .pre)
+
+returns-2 : tie.Need-returns-2
+returns-2 c = (omega arith, omega (arith, few c, c .before .pre), λ k lo hi. below-shifted (c .before .args .live) (c .before .args .from) k lo hi)
+
+pub next-live-spec : {M : Type 1} → statement M
+next-live-spec = tie.close (tie.spec returns shr-result cast-result add-result returns-2)
