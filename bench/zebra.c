@@ -15,7 +15,7 @@ typedef enum { FREE, SAME, NEXT, RIGHT_OF, LEFT_OF, DIFFERENT } relation;
 
 static const struct { uint8_t one, other, relation; } clues[] = {
     { ENGLISHMAN, RED, SAME },     { SPANIARD, DOG, SAME },        { COFFEE, GREEN, SAME },
-    { UKRAINIAN, TEA, SAME },       { GREEN, IVORY, RIGHT_OF },     { OLD_GOLD, SNAILS, SAME },
+    { UKRAINIAN, TEA, SAME },      { GREEN, IVORY, RIGHT_OF },     { OLD_GOLD, SNAILS, SAME },
     { KOOLS, YELLOW, SAME },       { CHESTERFIELD, FOX, NEXT },    { KOOLS, HORSE, NEXT },
     { LUCKY, ORANGE_JUICE, SAME }, { JAPANESE, PARLIAMENT, SAME }, { NORWEGIAN, BLUE, NEXT },
 };

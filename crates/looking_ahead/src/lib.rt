@@ -1,12 +1,10 @@
 // FC and FC-CBJ: a trial looks ahead at the later boats listed with it. Level i of the live words is as it stands before boat i's trial.
-ghost use mathlib.Core.Path.{_≡_};
-ghost use mathlib.Core.List.{[], _∷_, _++_};
-ghost use Prim.Native.Nat.{ℕ, _+_, _*_, _^_, _≤_, _<_};
+ghost use Prim.Native.Nat.{_+_, _*_, _^_, _≤_, _<_};
 ghost use lib.ListN.{length, take};
 ghost use Rattle.problem.specs.Sane.{Sane};
 ghost use Rattle.events.specs.Counts.{Fits};
 ghost use Rattle.methods.proofs.ByPlan.{aheadByPlan};
-ghost use Rattle.words.specs.Layout.{tables, Placed, Firsts, Only};
+ghost use Rattle.words.specs.Layout.{tables, Firsts, Only};
 ghost use Rattle.words.specs.Visits.{Visits};
 ghost use Rattle.looking_ahead.specs.Lives.{Lives, Copied};
 ghost use Rattle.looking_ahead.specs.Ahead.{LivesAfter};

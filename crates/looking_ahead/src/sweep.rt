@@ -1,11 +1,10 @@
 // A trial's way over the later boats that are listed with it.
-ghost use mathlib.Core.Path.{_≡_};
-ghost use Prim.Native.Nat.{ℕ, _+_, _*_, _≤_, _<_};
+ghost use Prim.Native.Nat.{_+_, _*_, _≤_, _<_};
 ghost use lib.ListN.{length, take};
 ghost use Rattle.problem.specs.Tables.{size as sizeOf};
 ghost use Rattle.problem.specs.Sane.{Sane};
 ghost use Rattle.events.specs.Counts.{Fits};
-ghost use Rattle.words.specs.Layout.{tables, Placed, Firsts, Only};
+ghost use Rattle.words.specs.Layout.{tables, Firsts, Only};
 ghost use Rattle.looking_ahead.specs.Lives.{Lives, Copied};
 ghost use Rattle.looking_ahead.specs.Sweeps.{SweepsTo};
 use events::Counted;

@@ -5,7 +5,7 @@ use mathlib.Core.List.{List}
 use Prim.Native.Nat.{ℕ, suc, _+_, _-_, _<_}
 use native.Mathlib.Omega.{arith}
 use lib.ListN.{length, getD}
-use Rattle.problem.specs.Tables.{Tables, boats, size, listed, lower, place, isListed, start, bit}
+use Rattle.problem.specs.Tables.{Tables, boats, size, lower, place, isListed, start, bit}
 use Rattle.problem.specs.Sane.{Sane}
 use Rattle.problem.proofs.Places.{listed-lt, place-pair, allowed-listed}
 use Rattle.problem.proofs.Starts.{start-within}

@@ -1,6 +1,6 @@
 // BM: a trial looks back only as far as its mark and the boat's b do not already tell.
 ghost use mathlib.Core.Path.{_≡_};
-ghost use Prim.Native.Nat.{ℕ, pred, _+_, _-_, _*_, _≤_, _<_};
+ghost use Prim.Native.Nat.{pred, _+_, _-_, _*_, _≤_, _<_};
 ghost use lib.ListN.{length, getD};
 ghost use Rattle.problem.specs.Tables.{bit};
 ghost use Rattle.problem.specs.Sane.{Sane};

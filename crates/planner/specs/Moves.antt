@@ -12,7 +12,7 @@ use Rattle.events.specs.Allowances.{outcome, undecided}
 use Rattle.events.specs.declared.Counts.{Counts}
 use Rattle.events.specs.Counts.{cutAt, Leads}
 use Rattle.methods.specs.Machine.{nowhere, back}
-use Rattle.words.specs.Layout.{word, Only}
+use Rattle.words.specs.Layout.{Only}
 use Rattle.words.specs.declared.Unlabelled.{Unlabelled}
 use Rattle.words.specs.declared.Unlabelled.the-variants.{Back, NoPlan}
 use Rattle.planner.specs.declared.labelled.Labelled.{Labelled}

@@ -1,6 +1,6 @@
 // The backward move: where a boat with no slot left goes.
 ghost use mathlib.Core.Path.{_≡_};
-ghost use Prim.Native.Nat.{ℕ, _+_, _^_, _≤_, _<_};
+ghost use Prim.Native.Nat.{_+_, _^_, _≤_, _<_};
 ghost use lib.ListN.{length};
 ghost use Rattle.problem.specs.Sane.{Sane};
 ghost use Rattle.problem.specs.declared.Way.the-variants.{Bm};

@@ -1,7 +1,7 @@
 // Numbers 10 and 11, and the lowest broken pair: a given plan, after the examination.
 ghost use mathlib.Core.Path.{_≡_};
 ghost use mathlib.Core.Bool.{not};
-ghost use Prim.Native.Nat.{ℕ, _<_};
+ghost use Prim.Native.Nat.{_<_};
 ghost use lib.ListN.{length};
 ghost use Rattle.problem.specs.Lowest.{lowest};
 ghost use Rattle.problem.specs.Sane.{Sane};

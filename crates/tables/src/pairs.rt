@@ -1,8 +1,6 @@
 // Number 5: the listed pairs.
 ghost use mathlib.Core.Path.{_≡_};
-ghost use mathlib.Core.Bool.{Bool};
 ghost use Prim.Native.Nat.{_<_};
-ghost use lib.ListN.{length};
 ghost use Rattle.problem.specs.Lowest.{lowest};
 ghost use Rattle.problem.specs.Tables.{listed};
 ghost use Rattle.tables.specs.Examination.{badPair, isAbove};

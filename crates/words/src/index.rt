@@ -2,7 +2,6 @@
 ghost use mathlib.Core.Path.{_≡_};
 ghost use Prim.Native.Nat.{ℕ, _+_, _≤_, _<_};
 ghost use lib.ListN.{length};
-ghost use Rattle.problem.specs.Tables.{listed};
 ghost use Rattle.problem.specs.Rising.{Rising};
 ghost use Rattle.problem.specs.Sane.{Sane};
 ghost use Rattle.words.specs.Layout.{tables, word, tri, indexOf, firstPair, Only, Zero, Indexed, Firsts};

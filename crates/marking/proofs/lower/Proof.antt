@@ -4,7 +4,7 @@ use Prim.Native.Nat.{ℕ, _+_, _-_, _≤_, _<_}
 use borrow.Author.Needs.{needs}
 use native.Mathlib.Omega.{arith}
 use lib.ListN.{length, set, length-set}
-use Rattle.words.specs.Layout.{word, Only}
+use Rattle.words.specs.Layout.{Only}
 use Rattle.methods.specs.BM.{lowered}
 use Rattle.marking.specs.Marks.{marksOf}
 use Rattle.marking.proofs.Lowering.{Lowering, lowering-none, lowering-set, lowering-ends, lowering-only, lowering-all}
