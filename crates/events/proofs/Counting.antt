@@ -1,4 +1,4 @@
--- The trials and the checks of two lists of events, one after the other. Assumes nothing.
+-- The trials and the checks of two lists of events, one after the other.
 use mathlib.Core.Path.{_≡_}
 use mathlib.Core.List.{List, [], _∷_, _++_}
 use Prim.Native.Nat.{_+_}

@@ -1,4 +1,4 @@
--- A search under its allowances, event by event: a single step, walking on past events that fit, and the first event that does not fit. Assumes nothing.
+-- A search under its allowances, event by event: a single step, walking on past events that fit, and the first event that does not fit.
 use mathlib.Core.Path.{_≡_, refl, _∙_}
 use mathlib.Core.Logic.{_≢_}
 use mathlib.Core.List.{List, [], _∷_, _++_}

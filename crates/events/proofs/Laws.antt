@@ -1,44 +1,19 @@
--- The laws of the allowances. (Document 01, 'Counting'.) Assumes nothing.
+-- The laws of the allowances. (Document 01, 'Counting'.)
 use mathlib.Core.Path.{_≡_, refl, sym, ap, _∙_}
 use mathlib.Core.Logic.{_⊎_, inl, inr}
-use mathlib.Core.List.{List, [], _∷_, _++_, append-nil}
+use mathlib.Core.List.{List, [], _++_, append-nil}
 use Prim.Native.Nat.{ℕ, _≤_}
 use native.Mathlib.Nat.{zero-add}
 use native.Mathlib.Omega.{arith}
 use lib.ListN.{take, drop, take-append-drop}
 use Rattle.problem.specs.declared.Allowance.the-variants.{Checks, Trials}
-use Rattle.events.specs.Events.{Event, trial, check, Ending, Search, trials, checks}
+use Rattle.events.specs.Events.{Event, Ending, Search, trials, checks}
 use Rattle.events.specs.Allowances.{Decision, decided, undecided, outcome, cutFrom, cut}
+use Rattle.events.specs.Undecided.{OutOfChecks, OutOfTrials}
 use Rattle.events.proofs.Cutting.{cut-no-trial, cut-no-check, cut-on, Way, fits, no-check, no-trial, way}
 
 -- a search of which ca checks and ta trials are allowed
 module _ (ca ta : ℕ) (s : Search) where
-  -- it has a check before which ca checks are made, and no more than ta trials; c and t are the counts there
-  pub record OutOfChecks (c t : ℕ) : Type 0 where
-    pub pre : List Event
-    pub post : List Event
-    pub h : ℕ
-    pub x : ℕ
-    pub i : ℕ
-    pub a : ℕ
-    pub split : s .events ≡ pre ++ check h x i a ∷ post
-    pub full : checks pre ≡ ca
-    pub within : trials pre ≤ ta
-    pub made : c ≡ checks pre
-    pub tried : t ≡ trials pre
-
-  -- it has a trial before which ta trials are made, and no more than ca checks; c and t are the counts there
-  pub record OutOfTrials (c t : ℕ) : Type 0 where
-    pub pre : List Event
-    pub post : List Event
-    pub i : ℕ
-    pub a : ℕ
-    pub split : s .events ≡ pre ++ trial i a ∷ post
-    pub full : trials pre ≡ ta
-    pub within : checks pre ≤ ca
-    pub made : c ≡ checks pre
-    pub tried : t ≡ trials pre
-
   -- events that fit are counted from nothing
   past : (pre fs : List Event) → checks pre ≤ ca → trials pre ≤ ta → cutFrom ca ta 0 0 (pre ++ fs) (s .ending) ≡ cutFrom ca ta (checks pre) (trials pre) fs (s .ending)
   past pre fs p q = simp zero-add at (cut-on ca ta 0 0 pre fs (s .ending) (omega arith) (omega arith))
@@ -49,20 +24,20 @@ module _ (ca ta : ℕ) (s : Search) where
   fits-decides p q = rw append-nil at (past (s .events) [] p q)
 
   -- a search that comes to a check when the checks are used up is undecided by checks
-  pub undecided-checks : (c t : ℕ) → OutOfChecks c t → cut ca ta s ≡ outcome (undecided Checks) c t
+  pub undecided-checks : (c t : ℕ) → OutOfChecks ca ta s c t → cut ca ta s ≡ outcome (undecided Checks) c t
   unfolding cut
   undecided-checks c t o = rw (o .split, o .made, o .tried) (past (o .pre) _ (omega arith) (o .within) ∙ cut-no-check _ _ _ _ _ _ _ _ _ _ (o .full))
 
   -- a search that comes to a trial when the trials are used up is undecided by trials
-  pub undecided-trials : (c t : ℕ) → OutOfTrials c t → cut ca ta s ≡ outcome (undecided Trials) c t
+  pub undecided-trials : (c t : ℕ) → OutOfTrials ca ta s c t → cut ca ta s ≡ outcome (undecided Trials) c t
   unfolding cut
   undecided-trials c t o = rw (o .split, o .made, o .tried) (past (o .pre) _ (o .within) (omega arith) ∙ cut-no-trial _ _ _ _ _ _ _ _ (o .full))
 
   -- what each decision says of the search
   abbrev Told : Decision → (c t : ℕ) → Type 0
   Told (decided r) c t = (checks (s .events) ≤ ca) × (trials (s .events) ≤ ta) × (r ≡ s .ending) × (c ≡ checks (s .events)) × (t ≡ trials (s .events))
-  Told (undecided Checks) c t = OutOfChecks c t
-  Told (undecided Trials) c t = OutOfTrials c t
+  Told (undecided Checks) c t = OutOfChecks ca ta s c t
+  Told (undecided Trials) c t = OutOfTrials ca ta s c t
 
   -- every outcome says it rightly
   told : Told (cut ca ta s .decision) (cut ca ta s .checks) (cut ca ta s .trials)
@@ -71,10 +46,10 @@ module _ (ca ta : ℕ) (s : Search) where
       by : {es : List Event} → Way ca ta es → s .events ≡ es → Told (cut ca ta s .decision) (cut ca ta s .checks) (cut ca ta s .trials)
       by (fits es p q) e = rw (fits-decides (rw e p) (rw e q)) (rw e p, rw e q, refl, refl, refl)
       by (no-check pre post h x i a p q) e =
-          let o : OutOfChecks (checks pre) (trials pre) = record { pre = pre; post = post; h = h; x = x; i = i; a = a; split = e; full = p; within = q; made = refl; tried = refl } in
+          let o : OutOfChecks ca ta s (checks pre) (trials pre) = record { pre = pre; post = post; h = h; x = x; i = i; a = a; split = e; full = p; within = q; made = refl; tried = refl } in
           rw (undecided-checks _ _ o) o
       by (no-trial pre post i a p q) e =
-          let o : OutOfTrials (checks pre) (trials pre) = record { pre = pre; post = post; i = i; a = a; split = e; full = p; within = q; made = refl; tried = refl } in
+          let o : OutOfTrials ca ta s (checks pre) (trials pre) = record { pre = pre; post = post; i = i; a = a; split = e; full = p; within = q; made = refl; tried = refl } in
           rw (undecided-trials _ _ o) o
 
   -- a decided search fits both allowances, and its ending and its counts are the search's own
@@ -83,11 +58,11 @@ module _ (ca ta : ℕ) (s : Search) where
   decided-fits r e = rw e at told
 
   -- a search that is undecided by checks came to a check when the checks were used up
-  pub checks-undecided : (c t : ℕ) → cut ca ta s ≡ outcome (undecided Checks) c t → OutOfChecks c t
+  pub checks-undecided : (c t : ℕ) → cut ca ta s ≡ outcome (undecided Checks) c t → OutOfChecks ca ta s c t
   checks-undecided c t e = rw e at told
 
   -- a search that is undecided by trials came to a trial when the trials were used up
-  pub trials-undecided : (c t : ℕ) → cut ca ta s ≡ outcome (undecided Trials) c t → OutOfTrials c t
+  pub trials-undecided : (c t : ℕ) → cut ca ta s ≡ outcome (undecided Trials) c t → OutOfTrials ca ta s c t
   trials-undecided c t e = rw e at told
 
   -- every search is decided, with its own ending, or undecided by checks, or undecided by trials

@@ -1,4 +1,4 @@
--- Where counting leads: a trial or a check that its allowance covers leads on, and one that it does not ends the run there. Assumes nothing.
+-- Where counting leads: a trial or a check that its allowance covers leads on, and one that it does not ends the run there.
 use mathlib.Core.Path.{_≡_, refl, ap, _∙_, subst}
 use mathlib.Core.Bool.{Bool, true, false}
 use mathlib.Core.List.{List, [], _∷_}

@@ -1,4 +1,4 @@
--- The tests that code makes: whether what was made is below what is allowed, and one comparison for a run of checks. Assumes nothing.
+-- The tests that code makes: whether what was made is below what is allowed, and one comparison for a run of checks.
 use mathlib.Core.Path.{_≡_, refl, _∙_}
 use mathlib.Core.List.{List, _∷_, _++_, append-assoc}
 use Prim.Native.Nat.{ℕ, suc, _+_, _-_, _≤_, _<_}

@@ -1,5 +1,5 @@
--- A search under its allowances: cut before the first event that would pass one. (Document 01, 'Counting'.) Assumes nothing.
-use mathlib.Core.Bool.{Bool, true, false}
+-- A search under its allowances: cut before the first event that would pass one. (Document 01, 'Counting'.)
+use mathlib.Core.Bool.{true, false}
 use mathlib.Core.List.{List, [], _∷_}
 use Prim.Native.Nat.{ℕ, suc}
 use lib.Dec.{eqb}

@@ -1,4 +1,4 @@
--- The counts beside their allowances: what is due is counted while its allowance covers it. Assumes nothing.
+-- The counts beside their allowances: what is due is counted while its allowance covers it.
 use mathlib.Core.Path.{_≡_}
 use mathlib.Core.Bool.{Bool, true, false}
 use Prim.Native.Nat.{ℕ, _+_, _-_, _≤_}

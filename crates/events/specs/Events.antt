@@ -1,4 +1,4 @@
--- What a search does that is counted: trials and checks. (Document 01, 'Counting'.) Assumes nothing.
+-- What a search does that is counted: trials and checks. (Document 01, 'Counting'.)
 use mathlib.Core.List.{List, [], _∷_, _++_}
 use Prim.Native.Nat.{ℕ}
 use lib.ListN.{length}

@@ -1,3 +1,4 @@
 pub mod Events
 pub mod Allowances
+pub mod Undecided
 pub mod Counts

@@ -11,7 +11,7 @@ pub struct Counts {
     pub most_trials: u64,
 }
 
-// The counts after what was due, or as they are where an allowance does not cover it.
+// The counts after what was due, or those reached where an allowance did not cover it.
 pub enum Counted {
     Within(Counts),
     Out(Counts),
@@ -33,12 +33,12 @@ impl Counts {
     pub fn trial(self) -> Counted
         ensures { λ r. ⌜ r ≡ trialCounted self ⌝ }
     {
-        let made = self.trials;
+        let tried = self.trials;
         let most = self.most_trials;
-        if made < most {
+        if tried < most {
             Counted::Within(Counts {
                 checks: self.checks,
-                trials: made + 1,
+                trials: tried + 1,
                 most_checks: self.most_checks,
                 most_trials: most,
             })

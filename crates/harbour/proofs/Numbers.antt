@@ -1,4 +1,4 @@
--- What the exported functions hand over, from what the operations say on paper. Assumes nothing.
+-- What the exported functions hand over, from what the operations say on paper.
 use mathlib.Core.Path.{_≡_}
 use Prim.Native.Nat.{ℕ, _+_, _≤_}
 use native.Mathlib.Omega.{arith}

@@ -1,4 +1,4 @@
--- What a C caller is handed: every reply as one number, one place and two counts. Assumes nothing.
+-- What a C caller is handed: every reply as one number, one place and two counts.
 use mathlib.Core.Bool.{true, false}
 use mathlib.Core.List.{List, [], _∷_}
 use Prim.Native.Nat.{ℕ, _-_}

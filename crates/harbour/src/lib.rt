@@ -1,12 +1,12 @@
 // The functions that a C program links. include/harbour.h declares them; each asks nothing of the tables or of the lent memory's length.
 ghost use mathlib.Core.Path.{_≡_};
-ghost use Rattle.tables.specs.Replies.{tables};
+ghost use Rattle.problem.specs.Tables.{tables};
 ghost use Rattle.tables.specs.Examination.{examination};
 ghost use Rattle.tables.specs.Questions.{lawfulQuestion, brokenQuestion, rowsShown};
 ghost use Rattle.planner.specs.Runs.{runResult};
 ghost use Rattle.harbour.specs.Handed.{handed, handedRun, fineOrRefused, handedPart};
 
-mod handing;
+mod replies;
 
 // An answer by its number, its place, and both counts.
 #[repr(C)]
@@ -63,14 +63,14 @@ pub extern "C" fn harbour_run(
     ensures { λ r. ⌜ now (work .exit) ≡ runResult method (tables (now (sizes .entry)) (now (pairs .entry)) (now (rows .entry))) (now (plan .entry)) (now (work .entry)) checks trials .work ⌝ }
 {
     let reply = planner::run(method, sizes, pairs, rows, plan, work, checks, trials);
-    handing::replied(reply)
+    replies::replied(reply)
 }
 
 #[no_mangle]
 pub extern "C" fn harbour_examine(sizes: &[u8], pairs: &[u8], rows: &[u64]) -> HarbourReply
     ensures { λ r. ⌜ r ≡ handed (fineOrRefused (examination (tables (now (sizes .entry)) (now (pairs .entry)) (now (rows .entry))))) 0 0 ⌝ }
 {
-    handing::examined(tables::examine(sizes, pairs, rows))
+    replies::examined(tables::examine(sizes, pairs, rows))
 }
 
 #[no_mangle]
@@ -82,7 +82,7 @@ pub extern "C" fn harbour_lawful(
 ) -> HarbourReply
     ensures { λ r. ⌜ r ≡ handed (lawfulQuestion (tables (now (sizes .entry)) (now (pairs .entry)) (now (rows .entry))) (now (given .entry))) 0 0 ⌝ }
 {
-    handing::judged(tables::is_lawful(sizes, pairs, rows, given))
+    replies::judged(tables::is_lawful(sizes, pairs, rows, given))
 }
 
 #[no_mangle]
@@ -94,7 +94,7 @@ pub extern "C" fn harbour_broken(
 ) -> HarbourReply
     ensures { λ r. ⌜ r ≡ handed (brokenQuestion (tables (now (sizes .entry)) (now (pairs .entry)) (now (rows .entry))) (now (given .entry))) 0 0 ⌝ }
 {
-    handing::broken(tables::first_broken(sizes, pairs, rows, given))
+    replies::broken(tables::first_broken(sizes, pairs, rows, given))
 }
 
 #[no_mangle]

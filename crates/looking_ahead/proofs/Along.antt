@@ -1,4 +1,4 @@
--- On the way over the pairs of boat i: what holds before each of them, at the first, and at the end. Assumes nothing.
+-- On the way over the pairs of boat i: what holds before each of them, at the first, and at the end.
 use mathlib.Core.Path.{_≡_, refl, ap, _∙_}
 use mathlib.Core.Bool.{true, false, _&&_}
 use mathlib.Core.List.{List, []}
@@ -11,7 +11,6 @@ use native.Mathlib.Nat.{le-refl, le-of-lt}
 use lib.ListN.{length, take}
 use lib.Seq.{length-take-le}
 use Rattle.problem.specs.Tables.{Tables, boats, size, listed, higher, isListed, start, bit}
-use Rattle.problem.specs.Sane.{Sane}
 use Rattle.problem.proofs.Starts.{start-mono}
 use Rattle.events.specs.Events.{Search}
 use Rattle.events.specs.declared.Counts.{Counts}
@@ -20,24 +19,16 @@ use Rattle.events.proofs.Leading.{leads-refl}
 use Rattle.methods.specs.Choices.{mayStand}
 use Rattle.methods.specs.Moves.{Boats}
 use Rattle.methods.specs.FC.{Swept}
-use Rattle.methods.proofs.ByPlan.{openSweep}
-use Rattle.words.specs.Layout.{word, Only, firstPair, Firsts, liveAt}
+use Rattle.methods.specs.ByPlan.{openSweep}
+use Rattle.words.specs.Layout.{word, ChangedOnly, firstPair, liveAt}
 use Rattle.words.proofs.Firsts.{first-le, first-same}
-use Rattle.words.proofs.Only.{only-refl}
-use Rattle.looking_ahead.specs.Lives.{Lives, Copied}
+use Rattle.words.proofs.ChangedOnly.{only-refl}
+use Rattle.looking_ahead.specs.Lives.{Copied}
+use Rattle.looking_ahead.specs.Kept.{Sweepable}
 use Rattle.looking_ahead.specs.Sweeps.{sweeping, trialSweep, SweepsTo}
 use Rattle.looking_ahead.specs.declared.sweep.Swept.the-variants.{Clear}
 use Rattle.looking_ahead.proofs.Pairs.{pair-listed, listed-pair}
 use Rattle.looking_ahead.proofs.Sweeping.{sweep-past, sweep-end}
-
--- what a sweep of slot a of boat i is given
-pub record Given (t : Tables) (w₀ : List ℕ) (i a : ℕ) : Type 0 where
-  pub sane : Sane t
-  pub boat : i < boats t
-  pub slot : a < size (t .sizes) i
-  pub long : 8192 ≤ length w₀
-  pub firsts : Firsts t w₀
-  pub lives : Lives t w₀ (take i w₀) i
 
 -- before pair k, whose row is word `at`: from the words w₀ and the counts m to w and n, with the boats below `next` gone over
 pub record Along (t : Tables) (w₀ : List ℕ) (i a : ℕ) (m : Counts) (w : List ℕ) (k at : ℕ) (n : Counts) : Type 0 where
@@ -50,14 +41,14 @@ pub record Along (t : Tables) (w₀ : List ℕ) (i a : ℕ) (m : Counts) (w : Li
   pub stay : (q b : ℕ) → firstPair (t .pairs) i ≤ q → q < k → b < 64 →
       bit (liveAt w (suc i) (higher (t .pairs) q)) b ≡ (bit (liveAt w₀ i (higher (t .pairs) q)) b && mayStand t i a (higher (t .pairs) q) b)
   pub copied : Copied t w i
-  pub only : Only (4160 + 64 * i) 8192 w₀ w
+  pub only : ChangedOnly (4160 + 64 * i) 8192 w₀ w
   pub same : openSweep t (take i w₀) a (suc i) (boats t - suc i) .emptied ≡ openSweep t (take i w₀) a next (boats t - next) .emptied
   pub leads : (on : Search) (off : Boats → Search) → Leads m (trialSweep t (take i w₀) a on off) n (sweeping t (take i w₀) a next (boats t - next) on off)
   pub fits : Fits n
 
-module _ {t : Tables} {w₀ : List ℕ} {i a : ℕ} (g : Given t w₀ i a) where
+module _ {t : Tables} {w₀ : List ℕ} {i a : ℕ} (g : Sweepable t w₀ i a) where
   pub plan-long : length (take i w₀) ≡ i
-  plan-long = length-take-le i w₀ (omega (arith, g .sane .fewBoats, g .boat, g .long))
+  plan-long = length-take-le i w₀ (omega (arith, g .sane .fewBoats, g .boat, g .room))
 
   first-word : word w₀ (192 + i) ≡ firstPair (t .pairs) i
   first-word = g .firsts .pairFrom i (le-of-lt (g .boat))

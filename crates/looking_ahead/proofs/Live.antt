@@ -1,4 +1,4 @@
--- The levels of live words: what changes and stays, and whom a boat's losses blame. Assumes nothing.
+-- The levels of live words: what changes and stays, and whom a boat's losses blame.
 use mathlib.Core.Path.{_≡_, refl, sym, ap, _∙_}
 use mathlib.Core.Bool.{Bool, true, false, not, _&&_, and-true, and-false}
 use mathlib.Core.List.{List, [], _∷_, _++_}
@@ -18,11 +18,13 @@ use Rattle.problem.proofs.Places.{to-true}
 use Rattle.methods.specs.Choices.{choices, mayStand}
 use Rattle.methods.specs.Moves.{some?}
 use Rattle.methods.proofs.Runs.{at}
-use Rattle.methods.proofs.Looking.{refuser, may-unlisted}
-use Rattle.methods.proofs.ByPlan.{isFirst, isOpen, blamersOf}
+use Rattle.methods.proofs.Looking.{may-unlisted}
+use Rattle.methods.specs.ByPlan.{refuser, isFirst, isOpen, blamersOf}
 use Rattle.methods.proofs.Ahead.{some?-elim, some?-none, some?-same, blamers-below}
 use Rattle.methods.proofs.Shown.{choices-size}
-use Rattle.words.specs.Layout.{word, Only, Firsts, liveAt}
+use Rattle.words.specs.Places.{levels, used, levelAt}
+use Rattle.words.specs.Layout.{word, ChangedOnly, liveAt}
+use Rattle.words.proofs.Frames.{Same, same-before}
 use Rattle.looking_ahead.specs.Lives.{Lives, Copied, LostAt}
 use Rattle.looking_ahead.specs.Sweeps.{Stays}
 use Rattle.looking_ahead.proofs.Words.{and-swap, bits-same}
@@ -60,21 +62,16 @@ module _ (n x y : ℕ) (f m : ℕ → Bool) (small : n ≤ 64) (lx : x < 2 ^ 64)
           kept b (yes l) = kept-case (f b) (m b) (ltb b n) (some?-none n (λ b. f b && not (m b)) e b l)
           kept b (no l) = rw (le-ltb b n (omega arith), and-false (f b), and-false (f b && m b))
 
--- ---- what a list of words keeps where only level i + 1 has changed
-module _ (t : Tables) (i : ℕ) (w w′ : List ℕ) (few : boats t ≤ 64) (o : Only (4160 + 64 * i) 8192 w w′) where
-  live-stays : (k j : ℕ) → k ≤ i → j < boats t → liveAt w′ k j ≡ liveAt w k j
-  live-stays k j lk lj = o .others (4096 + 64 * k + j) (inl (omega arith))
+-- ---- the levels stay where their words do
+module _ (t : Tables) (w w′ : List ℕ) (few : boats t ≤ 64) where
+  pub lives-stay : (p : List ℕ) (i : ℕ) → Same levels (4160 + 64 * i) w w′ → Lives t w p i → Lives t w′ p i
+  lives-stay p i e l k j b lk lj jn lb = ap (λ (v : ℕ). bit v b) (e (levelAt k j) (omega arith) (omega arith)) ∙ l k j b lk lj jn lb
 
-  pub lives-stay : (p : List ℕ) → Lives t w p i → Lives t w′ p i
-  lives-stay p l k j b lk lj jn lb = ap (λ (v : ℕ). bit v b) (live-stays k j lk jn) ∙ l k j b lk lj jn lb
+  pub copied-stays : (i : ℕ) → Same levels (4224 + 64 * i) w w′ → Copied t w i → Copied t w′ i
+  copied-stays i e c j lo hi f = e (levelAt (suc i) j) (omega arith) (omega arith) ∙ c j lo hi f ∙ sym (e (levelAt i j) (omega arith) (omega arith))
 
-  pub firsts-stay : Firsts t w → Firsts t w′
-  firsts-stay f =
-      record {
-        pairFrom = λ k lk. o .others (192 + k) (inl (omega arith)) ∙ f .pairFrom k lk;
-        rowFrom = λ k lk. o .others (320 + k) (inl (omega arith)) ∙ f .rowFrom k lk;
-      }
-
+-- ---- only level i + 1, and those after it, have changed
+module _ (t : Tables) (i : ℕ) (w w′ : List ℕ) (few : boats t ≤ 64) (o : ChangedOnly (4160 + 64 * i) used w w′) where
   -- a slot of boat i has passed: the next level is right
   pub lives-pass : (p : List ℕ) (a : ℕ) → length p ≡ i → Lives t w p i → Stays t w w′ i a → Copied t w′ i → Lives t w′ (p ++ (a ∷ [])) (suc i)
   lives-pass p a e l s c k j b lk lj jn lb = by (eq-or-lt-of-le lk)
@@ -91,11 +88,11 @@ module _ (t : Tables) (i : ℕ) (w w′ : List ℕ) (few : boats t ≤ 64) (o : 
       next : i < j → (h : Bool) → isListed (t .pairs) i j ≡ h → bit (liveAt w′ (suc i) j) b ≡ (isOpen t p j b && mayStand t i a j b && ltb b (size (t .sizes) j))
       next h true f = s j b h jn lb f ∙ ap (λ (z : Bool). z && mayStand t i a j b) (before h) ∙ and-swap (isOpen t p j b) (ltb b (size (t .sizes) j)) (mayStand t i a j b)
       next h false f =
-          ap (λ (v : ℕ). bit v b) (c j h jn f ∙ live-stays i j (omega arith) jn) ∙ before h ∙ rw (may-unlisted t i a j b f, and-true (isOpen t p j b))
+          ap (λ (v : ℕ). bit v b) (c j h jn f ∙ o .others (levelAt i j) (inl (omega arith))) ∙ before h ∙ rw (may-unlisted t i a j b f, and-true (isOpen t p j b))
 
       by : (k ≡ suc i) ⊎ (k < suc i) → bit (liveAt w′ k j) b ≡ (isOpen t (take k (p ++ (a ∷ []))) j b && ltb b (size (t .sizes) j))
       by (inl f) = rw (f, all, open-snoc t j b p a, e) (next (omega arith) (isListed (t .pairs) i j) refl)
-      by (inr f) = rw (take-append-le k p (a ∷ []) (omega arith)) (lives-stay p l k j b (omega arith) lj jn lb)
+      by (inr f) = rw (take-append-le k p (a ∷ []) (omega arith)) (lives-stay t w w′ few p i (same-before o (omega arith)) l k j b (omega arith) lj jn lb)
 
 -- ---- the boats at whose level boat j lost a slot are its blamers
 module _ (t : Tables) (w p : List ℕ) (i j : ℕ) (e : length p ≡ i) (lj : i ≤ j) (jn : j < boats t) (small : size (t .sizes) j ≤ 64)

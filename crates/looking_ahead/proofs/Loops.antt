@@ -1,4 +1,4 @@
--- The loops over a level: words written one after the other, all slots, and the set of those at whose level a slot was lost. Assumes nothing.
+-- The loops over a level: words written one after the other, all slots, and the set of those at whose level a slot was lost.
 use mathlib.Core.Path.{_≡_, sym, ap, _∙_}
 use mathlib.Core.Bool.{Bool, true, false, not, _&&_, _||_, or-false}
 use mathlib.Core.List.{List, []}

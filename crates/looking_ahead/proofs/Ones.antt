@@ -1,4 +1,4 @@
--- The bits of a word: a word without any, and how many are set. Assumes nothing.
+-- The bits of a word: a word without any, and how many are set.
 use mathlib.Core.Path.{_≡_, refl, sym, ap, _∙_}
 use mathlib.Core.Logic.{_⊎_, inl, inr}
 use mathlib.Core.Bool.{Bool, true, false, _&&_}
@@ -10,7 +10,7 @@ use native.Mathlib.Nat.{mod-lt, zero-lt-suc, eq-or-lt-of-le, le-of-suc-le-suc}
 use lib.Dec.{eqb, ltb}
 use lib.Arith.{lt-one}
 use lib.Pow.{pow-pos, mod-pow-add}
-use lib.Count.{ones, ones-cat}
+use lib.Count.{ones, ones-step, ones-cat}
 use borrow.Author.Tests.{lt-ltb, ltb-true}
 use Rattle.problem.specs.Tables.{bit}
 use Rattle.problem.proofs.Lowest.{not-both}
@@ -72,3 +72,15 @@ ones-more w n =
 pub ones-none : (w : ℕ) → ones (w % 2 ^ 0) ≡ 0
 unfolding ones
 ones-none w = ap ones (lt-one (mod-lt w (pow-pos 0)))
+
+-- ---- a word has no ones exactly where it is 0
+pub no-ones : (k w : ℕ) → w < 2 ^ k → ones w ≡ 0 → w ≡ 0
+no-ones zero w h e = omega arith
+no-ones (suc k) w h e =
+    let z = ones-step w in
+    let y = no-ones k (w / 2) (omega arith) (omega arith) in
+    omega (arith, y, z)
+
+pub zero-ones : ones 0 ≡ 0
+unfolding ones
+zero-ones = refl

@@ -1,4 +1,4 @@
--- What one placed boat more leaves open, and which boat was the first to refuse. Assumes nothing.
+-- What one placed boat more leaves open, and which boat was the first to refuse.
 use mathlib.Core.Path.{_≡_, refl, ap, _∙_}
 use mathlib.Core.Bool.{Bool, true, false, cond, not, _&&_}
 use mathlib.Core.List.{List, [], _∷_, _++_}
@@ -12,8 +12,8 @@ use borrow.Author.Tests.{eq-eqb, ne-eqb}
 use Rattle.problem.specs.Tables.{Tables}
 use Rattle.methods.specs.Choices.{mayStand}
 use Rattle.methods.proofs.Runs.{at}
-use Rattle.methods.proofs.Looking.{refuser, refuser-some}
-use Rattle.methods.proofs.ByPlan.{isNone, isFirst, isOpen}
+use Rattle.methods.proofs.Looking.{refuser-some}
+use Rattle.methods.specs.ByPlan.{refuser, isNone, isFirst, isOpen}
 
 -- the first of two, where there is one
 abbrev firstOf : Option ℕ → Option ℕ → Option ℕ

@@ -1,4 +1,4 @@
--- The listed pairs that have boat i as their lower boat: one after the other, and rising in their higher boat. Assumes nothing.
+-- The listed pairs that have boat i as their lower boat: one after the other, and rising in their higher boat.
 use mathlib.Core.Path.{_≡_}
 use mathlib.Core.Logic.{⊎-elim}
 use mathlib.Core.Bool.{true}

@@ -1,4 +1,4 @@
--- A sweep over the later boats: past those that are not listed, and at one that is. Assumes nothing.
+-- A sweep over the later boats: past those that are not listed, and at one that is.
 use mathlib.Core.Path.{_≡_, refl, ap, _∙_}
 use mathlib.Core.Bool.{Bool, true, false, _&&_, and-true, and-false}
 use mathlib.Core.List.{List, [], append-assoc}
@@ -15,7 +15,7 @@ use Rattle.events.specs.Events.{Event, check, Search, _then_, trialsOf, checksO
 use Rattle.methods.specs.Choices.{choices}
 use Rattle.methods.specs.Moves.{Boats}
 use Rattle.methods.specs.FC.{eachLive, sweepOver}
-use Rattle.methods.proofs.ByPlan.{isOpen, blamersOf, openChecks, openStays, openSweep}
+use Rattle.methods.specs.ByPlan.{isOpen, blamersOf, openChecks, openStays, openSweep}
 use Rattle.looking_ahead.specs.Sweeps.{settled, sweeping}
 use Rattle.looking_ahead.proofs.Ones.{one, ones-more, ones-none, short}
 

@@ -1,4 +1,4 @@
--- A turn of a sweep: pair k, with boat j as its higher boat. Assumes nothing.
+-- A turn of a sweep: pair k, with boat j as its higher boat.
 use mathlib.Core.Path.{_≡_, refl, sym, ap, _∙_}
 use mathlib.Core.Logic.{_⊎_, inl, inr}
 use mathlib.Core.Bool.{Bool, true, false, _&&_}
@@ -25,27 +25,28 @@ use Rattle.events.proofs.Leading.{leads-trans, leads-checks, checks-out}
 use Rattle.methods.specs.Choices.{choices, mayStand}
 use Rattle.methods.specs.Moves.{Boats}
 use Rattle.methods.specs.FC.{Swept}
-use Rattle.methods.proofs.ByPlan.{isOpen, openChecks, openStays, openSweep}
+use Rattle.methods.specs.ByPlan.{isOpen, openChecks, openStays, openSweep}
 use Rattle.methods.proofs.Shown.{choices-size, may-allowed}
-use Rattle.words.specs.Layout.{word, Only, firstPair, liveAt}
+use Rattle.words.specs.Layout.{word, ChangedOnly, firstPair, liveAt}
 use Rattle.words.proofs.Bits.{bit-and}
 use Rattle.words.proofs.Firsts.{first-same}
-use Rattle.words.proofs.Only.{only-trans, only-set}
+use Rattle.words.proofs.ChangedOnly.{only-trans, only-set}
 use Rattle.looking_ahead.specs.Lives.{Copied}
+use Rattle.looking_ahead.specs.Kept.{Sweepable}
 use Rattle.looking_ahead.specs.Sweeps.{sweeping, trialSweep, SweepsTo}
-use Rattle.looking_ahead.specs.declared.sweep.Swept.the-variants.{Emptied, Out as RunOut}
+use Rattle.looking_ahead.specs.declared.sweep.Swept.the-variants.{Emptied, OutOfChecks as RunOut}
 use Rattle.looking_ahead.proofs.Words.{and-swap}
-use Rattle.looking_ahead.proofs.Ones.{none-set, one-set}
+use Rattle.looking_ahead.proofs.Ones.{none-set, one-set, no-ones, zero-ones}
 use Rattle.looking_ahead.proofs.Pairs.{pair-listed, place-is, pair-is, higher-rise}
 use Rattle.looking_ahead.proofs.Sweeping.{sweep-past, on-emptied, on-sweeping, off-sweeping, checks-trials, checks-are}
-use Rattle.looking_ahead.proofs.Along.{Given, Along, plan-long, gap}
+use Rattle.looking_ahead.proofs.Along.{Along, plan-long, gap}
 
 nothing : Search
 nothing = record { events = []; ending = noPlan }
 
 -- from the words w₀ and the counts m, the words are w and the counts n; pair k, whose row is word `at`, is one of boat i's
 pub record Turn (t : Tables) (w₀ : List ℕ) (i a : ℕ) (m : Counts) (w : List ℕ) (k at : ℕ) (n : Counts) (j : ℕ) : Type 0 where
-  pub given : Given t w₀ i a
+  pub given : Sweepable t w₀ i a
   pub along : Along t w₀ i a m w k at n
   pub more : k < firstPair (t .pairs) (suc i)
   pub boat : j ≡ higher (t .pairs) k
@@ -147,24 +148,24 @@ module _ {t : Tables} {w₀ : List ℕ} {i a : ℕ} {m : Counts} {w : List ℕ} 
   stays-fits : stays < 2 ^ 64
   stays-fits = lt-of-le-of-lt (and-le-l (liveAt w i j) (word (t .rows) at)) (u .fits)
 
-  none-stay : stays ≡ 0 → openStays t (take i w₀) a j ≡ false
+  none-stay : ones stays ≡ 0 → openStays t (take i w₀) a j ≡ false
   unfolding openStays
-  none-stay z = none-set (choices t j) stays (λ b. isOpen t (take i w₀) j b && mayStand t (length (take i w₀)) a j b) few stays-fits open-bits z
+  none-stay z = none-set (choices t j) stays (λ b. isOpen t (take i w₀) j b && mayStand t (length (take i w₀)) a j b) few stays-fits open-bits (no-ones 64 stays stays-fits z)
 
-  some-stay : (stays ≡ 0 → ⊥) → openStays t (take i w₀) a j ≡ true
+  some-stay : (ones stays ≡ 0 → ⊥) → openStays t (take i w₀) a j ≡ true
   unfolding openStays
-  some-stay nz = one-set (choices t j) stays (λ b. isOpen t (take i w₀) j b && mayStand t (length (take i w₀)) a j b) few stays-fits open-bits nz
+  some-stay nz = one-set (choices t j) stays (λ b. isOpen t (take i w₀) j b && mayStand t (length (take i w₀)) a j b) few stays-fits open-bits (λ z. nz (ap ones z ∙ zero-ones))
 
   -- ---- the word written
   pub in-words : 4160 + 64 * i + j < length w
-  in-words = omega (arith, later, small, u .along .only .long, u .given .long)
+  in-words = omega (arith, later, small, u .along .only .long, u .given .room)
 
   module _ (s : ℕ) where
     abbrev wrote : List ℕ
     wrote = set w (4160 + 64 * i + j) s
 
-    here : liveAt wrote (suc i) j ≡ s
-    here =
+    written : liveAt wrote (suc i) j ≡ s
+    written =
         let e : 4096 + 64 * suc i + j ≡ 4160 + 64 * i + j = omega arith in
         ap (λ (q : ℕ). word wrote q) e ∙ getD-set-same w (4160 + 64 * i + j) s 0 in-words
 
@@ -179,7 +180,7 @@ module _ {t : Tables} {w₀ : List ℕ} {i a : ℕ} {m : Counts} {w : List ℕ} 
         ∙ u .along .copied x lx hx f
         ∙ sym (elsewhere (4096 + 64 * i + x) (λ e. omega (arith, u .given .sane .fewBoats)))
 
-    pub still-only : Only (4160 + 64 * i) 8192 w₀ wrote
+    pub still-only : ChangedOnly (4160 + 64 * i) 8192 w₀ wrote
     still-only = only-trans (u .along .only) (only-set w (4160 + 64 * i + j) s (omega arith) (omega (arith, later, small)))
 
   -- ---- the checks are within their allowance
@@ -191,12 +192,12 @@ module _ {t : Tables} {w₀ : List ℕ} {i a : ℕ} {m : Counts} {w : List ℕ} 
         (leads-checks n x y (u .along .fits) (openChecks t (take i w₀) a j 0 (choices t j)) (ones (liveAt w i j)) (checks-trials t (take i w₀) a j 0 (choices t j)) due e)
 
     -- nothing stays
-    pub empties : stays ≡ 0 → SweepsTo t w₀ (take i w₀) a m (wrote stays) (Emptied j x)
+    pub empties : ones stays ≡ 0 → SweepsTo t w₀ (take i w₀) a m (wrote stays) (Emptied j x)
     empties z =
         (rw (plan-long (u .given)) later, named, λ on off. led on off _ (off-sweeping t (take i w₀) a j named is-listed on off (none-stay z)))
 
     -- something stays
-    pub goes-on : (step : ℕ) → step ≡ size (t .sizes) i → (stays ≡ 0 → ⊥) → Along t w₀ i a m (wrote stays) (k + 1) (at + step) x
+    pub goes-on : (step : ℕ) → step ≡ size (t .sizes) i → (ones stays ≡ 0 → ⊥) → Along t w₀ i a m (wrote stays) (k + 1) (at + step) x
     goes-on step es nz =
         record {
           from = omega (arith, u .along .from);
@@ -221,7 +222,7 @@ module _ {t : Tables} {w₀ : List ℕ} {i a : ℕ} {m : Counts} {w : List ℕ} 
             bit (liveAt (wrote stays) (suc i) (higher (t .pairs) q)) b ≡ (bit (liveAt w₀ i (higher (t .pairs) q)) b && mayStand t i a (higher (t .pairs) q) b)
         stay-more q b lo lb (inl h) =
             rw (h, ← u .boat)
-            (ap (λ (v : ℕ). bit v b) (here stays) ∙ stays-bit b ∙ ap (λ (v : ℕ). bit v b && mayStand t i a j b) unwritten)
+            (ap (λ (v : ℕ). bit v b) (written stays) ∙ stays-bit b ∙ ap (λ (v : ℕ). bit v b && mayStand t i a j b) unwritten)
         stay-more q b lo lb (inr h) =
             ap (λ (v : ℕ). bit v b) (elsewhere stays (4096 + 64 * suc i + higher (t .pairs) q) (λ y. omega (arith, u .along .behind q lo h, not-before)))
             ∙ u .along .stay q b lo h lb

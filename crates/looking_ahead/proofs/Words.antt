@@ -1,4 +1,4 @@
--- Words by their bits. Assumes nothing.
+-- Words by their bits.
 use mathlib.Core.Path.{_≡_, refl, sym, ap, _∙_}
 use mathlib.Core.Bool.{Bool, false, _&&_, and-assoc, and-comm}
 use Prim.Native.Nat.{ℕ, zero, suc, _+_, _-_, _/_, _%_, _^_, _≤_, _<_}

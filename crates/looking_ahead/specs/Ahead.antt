@@ -1,10 +1,10 @@
--- What a visit leaves in the live words. Assumes nothing.
+-- What a visit leaves in the live words.
 use mathlib.Core.List.{List, [], _∷_, _++_}
 use Prim.Native.Nat.{ℕ, suc}
 use lib.ListN.{take}
 use Rattle.problem.specs.Tables.{Tables}
-use Rattle.words.specs.declared.Visited.{Visited}
-use Rattle.words.specs.declared.Visited.the-variants.{Passed, Spent, OutOfChecks, OutOfTrials}
+use Rattle.visits.specs.declared.Visited.{Visited}
+use Rattle.visits.specs.declared.Visited.the-variants.{Passed, Spent, OutOfChecks, OutOfTrials}
 use Rattle.looking_ahead.specs.Lives.{Lives, Copied}
 
 -- a slot that passed has the next level right; what was right before still is

@@ -1,3 +1,4 @@
 pub mod Lives
 pub mod Sweeps
 pub mod Ahead
+pub mod Kept

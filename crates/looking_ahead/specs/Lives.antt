@@ -1,4 +1,4 @@
--- The levels of live words: level k has, for each boat from k on, the slots that the boats below k leave it. Assumes nothing.
+-- The levels of live words: level k has, for each boat from k on, the slots that the boats below k leave it.
 use mathlib.Core.Path.{_≡_}
 use mathlib.Core.Bool.{false, not, _&&_}
 use mathlib.Core.List.{List}
@@ -6,7 +6,7 @@ use Prim.Native.Nat.{ℕ, suc, _^_, _≤_, _<_}
 use lib.Dec.{ltb, eqb}
 use lib.ListN.{take}
 use Rattle.problem.specs.Tables.{Tables, boats, size, isListed, bit}
-use Rattle.methods.proofs.ByPlan.{isOpen}
+use Rattle.methods.specs.ByPlan.{isOpen}
 use Rattle.words.specs.Layout.{liveAt}
 
 -- under the plan so far p, up to level i

@@ -1,4 +1,4 @@
--- A trial's way over the later boats, as what is to come: for any way on, and any way on from the blamers of an emptied boat. Assumes nothing.
+-- A trial's way over the later boats, as what is to come: for any way on, and any way on from the blamers of an emptied boat.
 use mathlib.Core.Path.{_≡_}
 use mathlib.Core.Bool.{true, _&&_}
 use mathlib.Core.List.{List}
@@ -13,10 +13,10 @@ use Rattle.events.specs.declared.Counts.{Counts}
 use Rattle.events.specs.Counts.{cutAt, Leads}
 use Rattle.methods.specs.Choices.{mayStand}
 use Rattle.methods.specs.Moves.{Boats}
-use Rattle.methods.proofs.ByPlan.{openSweep, blamersOf}
+use Rattle.methods.specs.ByPlan.{openSweep, blamersOf}
 use Rattle.words.specs.Layout.{liveAt}
 use Rattle.looking_ahead.specs.declared.sweep.Swept.{Swept}
-use Rattle.looking_ahead.specs.declared.sweep.Swept.the-variants.{Clear, Emptied, Out}
+use Rattle.looking_ahead.specs.declared.sweep.Swept.the-variants.{Clear, Emptied, OutOfChecks}
 
 -- on where no boat was emptied; off from the blamers of the boat that was
 abbrev pub settled : Tables → (p : List ℕ) → Option ℕ → (on : Search) → (off : Boats → Search) → Search
@@ -42,5 +42,5 @@ SweepsTo t w p a m w′ (Clear k) =
     × ((on : Search) (off : Boats → Search) → Leads m (trialSweep t p a on off) k on)
 SweepsTo t w p a m w′ (Emptied j k) =
     (length p < j) × (j < boats t) × ((on : Search) (off : Boats → Search) → Leads m (trialSweep t p a on off) k (off (blamersOf t p j)))
-SweepsTo t w p a m w′ (Out k) =
+SweepsTo t w p a m w′ (OutOfChecks k) =
     (on : Search) (off : Boats → Search) → cutAt m (trialSweep t p a on off) ≡ outcome (undecided Checks) (k .checks) (k .trials)

@@ -1,12 +1,12 @@
 // FC and FC-CBJ: a trial looks ahead at the later boats listed with it. Level i of the live words is as it stands before boat i's trial.
-ghost use Prim.Native.Nat.{_+_, _*_, _^_, _≤_, _<_};
-ghost use lib.ListN.{length, take};
-ghost use Rattle.problem.specs.Sane.{Sane};
-ghost use Rattle.events.specs.Counts.{Fits};
-ghost use Rattle.methods.proofs.ByPlan.{aheadByPlan};
-ghost use Rattle.words.specs.Layout.{tables, Firsts, Only};
-ghost use Rattle.words.specs.Visits.{Visits};
-ghost use Rattle.looking_ahead.specs.Lives.{Lives, Copied};
+ghost use mathlib.Core.Path.{_≡_};
+ghost use Prim.Native.Nat.{_+_, _*_, _^_, _<_};
+ghost use Rattle.problem.specs.Tables.{Tables, tables};
+ghost use Rattle.methods.specs.ByPlan.{aheadByPlan};
+ghost use Rattle.words.specs.Places.{used, levels, nextLevel};
+ghost use Rattle.words.specs.Layout.{ChangedOnly};
+ghost use Rattle.visits.specs.Visits.{Standing, Visits};
+ghost use Rattle.looking_ahead.specs.Kept.{KeptAhead};
 ghost use Rattle.looking_ahead.specs.Ahead.{LivesAfter};
 
 mod levels;
@@ -19,11 +19,13 @@ pub use levels::blamers;
 pub use levels::copy_level;
 pub use levels::fill_level;
 use sweep::Swept;
-use words::Visited;
+use visits::Backward;
+use visits::Visited;
+use words::Words;
 
 // The live slots of boat i from one on. With conflict sets, a slot that empties a later boat puts that boat's blamers into the set.
 pub fn visit(
-    jumps: bool,
+    backward: Backward,
     sizes: &[u8],
     pairs: &[u8],
     rows: &[u64],
@@ -33,16 +35,18 @@ pub fn visit(
     start: Counts,
     work: &mut [u64],
 ) -> Visited
-    requires { ⌜ Sane (tables (now sizes) (now pairs) (now rows)) ⌝ }
-    requires { ⌜ (i < length (now sizes)) × (8192 ≤ length (now work)) × (with < 2 ^ i) ⌝ }
-    requires { ⌜ Firsts (tables (now sizes) (now pairs) (now rows)) (now work) × Lives (tables (now sizes) (now pairs) (now rows)) (now work) (take i (now work)) i × Copied (tables (now sizes) (now pairs) (now rows)) (now work) i ⌝ }
-    requires { ⌜ Fits start ⌝ }
-    ensures { λ r. ⌜ Visits (tables (now (sizes .entry)) (now (pairs .entry)) (now (rows .entry))) (aheadByPlan (tables (now (sizes .entry)) (now (pairs .entry)) (now (rows .entry)))) jumps (now (work .entry)) i from with start r ⌝ }
-    ensures { λ r. ⌜ LivesAfter (tables (now (sizes .entry)) (now (pairs .entry)) (now (rows .entry))) (now (work .entry)) i (now (work .exit)) r ⌝ }
-    ensures { λ r. ⌜ Only (4160 + 64 * i) 8192 (now (work .entry)) (now (work .exit)) ⌝ }
+    ghost { Tables }
+    requires { λ t. ⌜ tables (now sizes) (now pairs) (now rows) ≡ t ⌝ }
+    requires { λ t. ⌜ Standing t (now work) i start ⌝ }
+    requires { λ t. ⌜ KeptAhead t (now work) i ⌝ }
+    requires { λ _. ⌜ with < 2 ^ i ⌝ }
+    ensures { λ t r. ⌜ Visits t (aheadByPlan t) backward (now (work .entry)) i from with start r ⌝ }
+    ensures { λ t r. ⌜ LivesAfter t (now (work .entry)) i (now (work .exit)) r ⌝ }
+    ensures { λ _ r. ⌜ ChangedOnly (nextLevel i) used (now (work .entry)) (now (work .exit)) ⌝ }
 {
     let size = problem::size_of(sizes, i) as u64;
-    let live = work[4096 + 65 * i];
+    // boat i's own word in level i
+    let live = work[Words::LEVELS + 65 * i];
     let mut slot = from;
     let mut set = with;
     let mut counts = start;
@@ -56,11 +60,12 @@ pub fn visit(
                 Swept::Clear(k) => return Visited::Passed(slot, set, k),
                 Swept::Emptied(j, k) => {
                     counts = k;
-                    if jumps {
-                        set = set | levels::blamers(work, i, j);
+                    match backward {
+                        Backward::OneBack => {}
+                        Backward::BySets => set = set | levels::blamers(i, j, work),
                     }
                 }
-                Swept::Out(k) => return Visited::OutOfChecks(k),
+                Swept::OutOfChecks(k) => return Visited::OutOfChecks(k),
             }
         }
         slot = slots::next_live(live, slot + 1);

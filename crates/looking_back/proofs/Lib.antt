@@ -1,4 +1,2 @@
-pub mod Looks
-pub mod Looking
 pub mod Links
 pub mod Trials

@@ -1,23 +1,19 @@
--- The links of a boat, for its trials: the next one is the next listed boat, and none left means that no listed boat is left. Assumes nothing.
-use mathlib.Core.Path.{_≡_, refl, sym, ap, _∙_}
+-- The links of a boat, for its trials: the next one is the next listed boat, and none left means that no listed boat is left.
+use mathlib.Core.Path.{_≡_, refl, _∙_}
 use mathlib.Core.Bool.{true}
 use mathlib.Core.List.{List}
 use mathlib.Core.Option.{Option, none as nobody}
 use Prim.Native.Nat.{ℕ, suc, _+_, _/_, _%_, _≤_, _<_}
 use native.Mathlib.Omega.{arith}
-use lib.ListN.{length, getD}
-use Rattle.problem.specs.Tables.{Tables, boats, size, lower, place, isListed, start, bit}
-use Rattle.problem.specs.Sane.{Sane}
-use Rattle.problem.proofs.Places.{listed-lt, place-pair, allowed-listed}
-use Rattle.problem.proofs.Starts.{start-within}
+use lib.ListN.{length}
+use Rattle.problem.specs.Tables.{Tables, boats, place, isListed, start}
 use Rattle.events.specs.Events.{Search}
-use Rattle.methods.specs.Choices.{mayStand}
-use Rattle.methods.proofs.Shown.{may-allowed}
-use Rattle.words.specs.Layout.{word, tri}
+use Rattle.words.specs.Places.{tri}
+use Rattle.words.specs.Layout.{word}
 use Rattle.words.specs.Links.{linkOf, Links, none, past, link, Linked}
 use Rattle.words.proofs.Triangle.{tri-small}
 use Rattle.words.proofs.Links.{links-bounds}
-use Rattle.looking_back.proofs.Looking.{from, from-past, from-end}
+use Rattle.visits.proofs.Looking.{from, from-past, from-end}
 
 -- ---- what a link says
 module _ (t : Tables) (h i l : ℕ) (isLink : l ≡ linkOf t h i) (few : h < 64) where
@@ -26,20 +22,6 @@ module _ (t : Tables) (h i l : ℕ) (isLink : l ≡ linkOf t h i) (few : h < 64)
 
   pub link-row : l / 64 ≡ start (t .sizes) (t .pairs) (place (t .pairs) h i)
   link-row = omega (arith, isLink)
-
-  module _ (listed : isListed (t .pairs) h i ≡ true) (x : ℕ) where
-    -- the row of slot x of boat h is there
-    pub row-there : Sane t → x < size (t .sizes) h → l / 64 + x < length (t .rows)
-    row-there s lx =
-        let k = place (t .pairs) h i in
-        let q = listed-lt (t .pairs) h i listed in
-        let z : size (t .sizes) (lower (t .pairs) k) ≡ size (t .sizes) h = ap (size (t .sizes)) (place-pair (t .pairs) h i q .0) in
-        omega (arith, link-row, z, s .rowWords, start-within (t .sizes) (t .pairs) k q)
-
-    -- its bits say which slots may stand beside slot x of boat h
-    pub row-allows : (a : ℕ) → bit (getD (t .rows) (l / 64 + x) 0) a ≡ mayStand t h x i a
-    row-allows a =
-        ap (λ (n : ℕ). bit (getD (t .rows) (n + x) 0) a) link-row ∙ sym (may-allowed t h x i a ∙ allowed-listed t h x i a listed)
 
 -- ---- from boat h on, the links of boat i are the words from q up to e
 module _ (t : Tables) (w : List ℕ) (i : ℕ) (le : i ≤ length w) where

@@ -1,5 +1,4 @@
 pub mod Indices
-pub mod Looks
 pub mod Marking
 pub mod Lowering
 pub mod Trials

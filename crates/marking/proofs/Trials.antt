@@ -1,4 +1,4 @@
--- A trial of BM as what is to come: it leads on to the next slot where the mark tells that it fails, and looks back where it does not. Assumes nothing.
+-- A trial of BM as what is to come: it leads on to the next slot where the mark tells that it fails, and looks back where it does not.
 use mathlib.Core.Path.{_≡_, refl, ap, _∙_}
 use mathlib.Core.Bool.{Bool, true, false}
 use mathlib.Core.List.{List, [], _∷_, _++_}
@@ -9,15 +9,19 @@ use lib.Dec.{ltb}
 use lib.ListN.{length, drop}
 use borrow.Author.Tests.{lt-ltb, le-ltb}
 use Rattle.problem.specs.Tables.{Tables, boats, size}
-use Rattle.events.specs.Events.{Event, trial, _then_}
+use Rattle.events.specs.Events.{Event, trial, Search, _then_}
 use Rattle.methods.specs.Choices.{choices}
 use Rattle.methods.specs.Machine.{Tried, searchFrom}
 use Rattle.methods.specs.BT.{lookBack}
 use Rattle.methods.specs.BM.{Marks, lastLookedAt, marked, isClear, markedTrial, bm}
-use Rattle.methods.proofs.Falling.{search-next}
+use Rattle.methods.proofs.StepsLeft.{search-next}
 use Rattle.methods.proofs.Runs.{step-fail, step-pass, search-spent}
 use Rattle.methods.proofs.Shown.{choices-size}
-use Rattle.marking.specs.Looks.{settled}
+
+-- what is to come after a trial's looks, by the boat that failed: slot a of boat i passes, or the next slot is due; τ has the mark, by the last boat looked at
+abbrev pub ended : Tables → (p : List ℕ) → (i a : ℕ) → (τ : ℕ → Marks) → Option ℕ → Search
+ended t p i a τ none = searchFrom t (bm t) (p ++ (a ∷ [])) 0 (τ (pred i))
+ended t p i a τ (some h) = searchFrom t (bm t) p (suc a) (τ h)
 
 module _ (t : Tables) (p : List ℕ) (a : ℕ) (σ : Marks) (lt : length p < boats t) where
   module _ (la : a < size (t .sizes) (length p)) where
@@ -39,9 +43,7 @@ module _ (t : Tables) (p : List ℕ) (a : ℕ) (σ : Marks) (lt : length p < boa
 
     looks : (es : List Event) (f : Option ℕ) →
         bm t .label σ p a ≡ record { checks = es; passed = isClear f; after = marked σ (length p) a (lastLookedAt (length p) f) } →
-        searchFrom t (bm t) p a σ
-        ≡ (trial (length p) a ∷ []) then es then settled f (searchFrom t (bm t) (p ++ (a ∷ [])) 0 (marked σ (length p) a (pred (length p))))
-        (λ h. searchFrom t (bm t) p (suc a) (marked σ (length p) a h))
+        searchFrom t (bm t) p a σ ≡ (trial (length p) a ∷ []) then es then ended t p (length p) a (marked σ (length p) a) f
     looks es none e = passes _ e refl
     looks es (some h) e = fails _ e refl
 
@@ -58,8 +60,7 @@ module _ (t : Tables) (p : List ℕ) (a : ℕ) (σ : Marks) (lt : length p < boa
 
       pub trial-looks : b ≤ σ .m (length p) a →
           searchFrom t (bm t) p a σ
-          ≡ (trial (length p) a ∷ []) then lookBack t (length p) a b (drop b p) .checks then settled (lookBack t (length p) a b (drop b p) .failing)
-          (searchFrom t (bm t) (p ++ (a ∷ [])) 0 (marked σ (length p) a (pred (length p)))) (λ h. searchFrom t (bm t) p (suc a) (marked σ (length p) a h))
+          ≡ (trial (length p) a ∷ []) then lookBack t (length p) a b (drop b p) .checks then ended t p (length p) a (marked σ (length p) a) (lookBack t (length p) a b (drop b p) .failing)
       trial-looks l = let r = lookBack t (length p) a b (drop b p) in looks (r .checks) (r .failing) (label-is false (le-ltb _ _ l))
 
   pub no-slot : size (t .sizes) (length p) ≤ a → searchFrom t (bm t) p a σ ≡ searchFrom t (bm t) p (size (t .sizes) (length p)) σ

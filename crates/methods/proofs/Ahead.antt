@@ -1,4 +1,4 @@
--- Looking ahead by the plan so far is an honest forward move. Assumes nothing.
+-- Looking ahead by the plan so far is an honest forward move.
 use mathlib.Core.Path.{_≡_, refl, sym, ap, subst}
 use mathlib.Core.Bool.{Bool, true, false, _&&_, _||_}
 use mathlib.Core.List.{List}
@@ -19,8 +19,8 @@ use Rattle.methods.proofs.Runs.{at}
 use Rattle.methods.proofs.Standing.{Stands}
 use Rattle.methods.proofs.Sets.{or-left, or-right, or-cases, and-both}
 use Rattle.methods.proofs.Sound.{Bars, Honest}
-use Rattle.methods.proofs.Looking.{refuser, refuser-some, refuser-none}
-use Rattle.methods.proofs.ByPlan.{isNone, isFirst, isOpen, blamersOf, openStays, openSweep, endOfOpen, aheadByPlan}
+use Rattle.methods.proofs.Looking.{refuser-some, refuser-none}
+use Rattle.methods.specs.ByPlan.{refuser, isNone, isFirst, isOpen, blamersOf, openStays, openSweep, endOfOpen, aheadByPlan}
 
 -- ---- some number below n passes a test
 pub some?-intro : (n : ℕ) (f : ℕ → Bool) (b : ℕ) → b < n → T (f b) → T (some? n f)

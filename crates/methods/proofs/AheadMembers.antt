@@ -1,4 +1,4 @@
--- Forward checking blames placed boats alone, so FC-CBJ's conflict sets hold lower boats alone. Assumes nothing.
+-- Forward checking blames placed boats alone, so FC-CBJ's conflict sets hold lower boats alone.
 use mathlib.Core.Path.{_≡_, subst}
 use mathlib.Core.Bool.{Bool, false}
 use mathlib.Core.List.{List, [], _∷_, _++_}

@@ -1,4 +1,4 @@
--- Forward checking, with its strikes, does what looking ahead by the plan so far does: FC and FC-CBJ make the same searches over both. Assumes nothing.
+-- Forward checking, with its strikes, does what looking ahead by the plan so far does: FC and FC-CBJ make the same searches over both.
 use mathlib.Core.Path.{_≡_, refl, ap}
 use mathlib.Core.List.{List, [], _∷_, _++_}
 use mathlib.Core.Option.{Option, none, some}
@@ -12,7 +12,7 @@ use Rattle.methods.specs.Moves.{stepping}
 use Rattle.methods.specs.CBJ.{jumping}
 use Rattle.methods.specs.FC.{Strikes, Swept, sweep, endOfSweep, lookingAhead, fc}
 use Rattle.methods.specs.FCCBJ.{fccbj}
-use Rattle.methods.proofs.ByPlan.{openSweep, endOfOpen, aheadByPlan}
+use Rattle.methods.specs.ByPlan.{openSweep, endOfOpen, aheadByPlan}
 use Rattle.methods.proofs.Ahead.{emptied-at}
 use Rattle.methods.proofs.Strikes.{Struck, struck-start, struck-pass, struck-back, live-same, strikers-same, sweep-same}
 use Rattle.methods.proofs.SameMoves.{SameVerdict, both-pass, both-fail, Twins, same-stepping, same-jumping}

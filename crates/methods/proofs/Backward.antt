@@ -1,4 +1,4 @@
--- Looking back is an honest forward move: a choice that it fails is barred by the boat to blame, and one that it passes is allowed by all. Assumes nothing.
+-- Looking back is an honest forward move: a choice that it fails is barred by the boat to blame, and one that it passes is allowed by all.
 use mathlib.Core.Path.{_≡_, refl, sym, ap, _∙_, subst}
 use mathlib.Core.Bool.{false}
 use mathlib.Core.List.{List}
@@ -15,7 +15,8 @@ use Rattle.methods.specs.BT.{lookBack, blameFailing, lookingBack}
 use Rattle.methods.proofs.Runs.{at}
 use Rattle.methods.proofs.Sound.{Bars, Honest}
 use Rattle.methods.proofs.Members.{Judged, BlamesPlaced}
-use Rattle.methods.proofs.Looking.{refuser, failing-is, refuser-some, refuser-none}
+use Rattle.methods.specs.ByPlan.{refuser}
+use Rattle.methods.proofs.Looking.{failing-is, refuser-some, refuser-none}
 
 -- what a verdict says of the failing boat
 blamed-is : (x : Option ℕ) (s : Boats) → blameFailing x ≡ fail s → (h : ℕ) × (x ≡ some h) × (only h ≡ s)

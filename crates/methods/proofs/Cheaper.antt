@@ -1,4 +1,4 @@
--- Demand 3, once: a method that follows a forward move and whose ways back are justified never costs more than the stepping method. Assumes nothing.
+-- Demand 3, once: a method that follows a forward move and whose ways back are justified never costs more than the stepping method.
 use mathlib.Core.Path.{_≡_, refl, sym, _∙_, ap}
 use mathlib.Core.Bool.{true, false}
 use mathlib.Core.List.{List, [], _∷_, _++_, append-assoc}
@@ -12,7 +12,7 @@ use Rattle.problem.specs.Tables.{Tables, boats}
 use Rattle.events.specs.Events.{Event, trial, Ending, solved, noPlan, astray, trialsOf, checksOf, trials, checks}
 use Rattle.events.proofs.Counting.{trials-append, checks-append}
 use Rattle.methods.specs.Choices.{choices}
-use Rattle.methods.specs.Machine.{back, Method, Step, stop, next, step}
+use Rattle.methods.specs.Machine.{back, Steps, Step, stop, next, step}
 use Rattle.methods.specs.Moves.{Forward, stepping}
 use Rattle.methods.proofs.Runs.{at, at-take, at-snoc, stop-or-next, next-same, stop-same, Runs, ends, goes, readied, labelled, View, at-end, at-out, at-back, at-astray, at-skip, at-fail, at-pass, view, step-end, step-skip, step-fail, step-pass, at-next, at-stop}
 use Rattle.methods.proofs.Standing.{NoneStands, Meaning, Fit, fit-take, fit-snoc, fit-whole}
@@ -95,7 +95,7 @@ module _ (t : Tables) (F : Forward (Unit {0})) (H : Honest t F) where
           rw (z .1) at (rec (rw (z .1) g) h (rw (z .1, length-append) (omega arith)) (rw (z .1) (dead-snoc p a h lt D))) in
           rw (take-append-le h p (a ∷ []) (le-of-lt lt), at-snoc p a h lt) at y
 
-  module _ {S : Type 0} (M : Method S) (Inv : List ℕ → ℕ → S → Type 0) (J : Justified t F M Inv) where
+  module _ {S : Type 0} (M : Steps S) (Inv : List ℕ → ℕ → S → Type 0) (J : Justified t F M Inv) where
     -- The method makes no more checks than the forward move's own, all told: a check that it does not make now may wait, and is paid for already.
     -- `Pot` bounds what waits.
     pub record Fewer (Pot : List ℕ → ℕ → S → ℕ) : Type 0 where

@@ -1,4 +1,4 @@
--- Demands 2 and 3 for the stepping and the jumping method over any honest forward move that remembers nothing. Assumes nothing.
+-- Demands 2 and 3 for the stepping and the jumping method over any honest forward move that remembers nothing.
 use mathlib.Core.Path.{_≡_, refl}
 use mathlib.Core.List.{List, []}
 use Prim.Native.Nat.{_≤_}

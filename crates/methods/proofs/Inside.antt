@@ -1,4 +1,4 @@
--- No. 10: a search that starts inside a trial makes the rest of the search that it is a part of, and decides the same under the counts reached. Assumes nothing.
+-- No. 10: a search that starts inside a trial makes the rest of the search that it is a part of, and decides the same under the counts reached.
 use mathlib.Core.Path.{_≡_, refl, sym, ap, _∙_}
 use mathlib.Core.List.{List, []}
 use Prim.Native.Nat.{ℕ, _-_, _+_, _≤_}
@@ -7,14 +7,14 @@ use native.Mathlib.Decide.{decLe}
 use lib.ListN.{length, take, drop}
 use lib.Seq.{take-append-le, drop-append-le, drop-append-add, drop-nil}
 use Rattle.problem.specs.Tables.{Tables}
-use Rattle.events.specs.Events.{Event, Search, trials, checks, _then_}
+use Rattle.events.specs.Events.{Event, trials, checks, _then_}
 use Rattle.events.specs.Allowances.{cutFrom, cut}
 use Rattle.events.proofs.Laws.{resumed}
-use Rattle.methods.specs.Machine.{Method, Step, stop, next, step, onward, searchFrom, search, unmade, searchInside}
-use Rattle.methods.proofs.Falling.{search-step, search-next, by-steps}
-use Rattle.methods.proofs.Reached.{Reached, start, later}
+use Rattle.methods.specs.Machine.{Steps, Step, stop, next, step, onward, searchFrom, search, unmade, searchInside}
+use Rattle.methods.specs.Reached.{Reached, start, later, Place, after}
+use Rattle.methods.proofs.StepsLeft.{search-step, search-next, by-steps}
 
-module _ (t : Tables) {S : Type 0} (M : Method S) where
+module _ (t : Tables) {S : Type 0} (M : Steps S) where
   module _ (p : List ℕ) (a : ℕ) (σ : S) where
     -- no event made yet: the search from between two choices
     pub inside-none : searchInside t M 0 p a σ ≡ searchFrom t M p a σ
@@ -41,32 +41,19 @@ module _ (t : Tables) {S : Type 0} (M : Method S) where
           rw (inside-step, search-next t M p a σ e) (rw (et, ed) at (resumed ca ta (es then searchFrom t M q b τ) made (rw et lc) (rw et lt)))
 
   -- ---- where a search is stopped
-  -- a search without its first k events
-  abbrev pub after : (k : ℕ) → Search → Search
-  after k s = record { events = drop k (s .events); ending = s .ending }
-
-  -- a place that the search from the beginning comes to, and from which s is to come
-  pub record Place (s : Search) : Type 0 where
-    pub plan : List ℕ
-    pub choice : ℕ
-    pub memory : S
-    pub made : ℕ
-    pub reached : Reached t M plan choice memory
-    pub comes : searchInside t M made plan choice memory ≡ s
-
-  place-from : (p : List ℕ) (a : ℕ) (σ : S) (k : ℕ) → Reached t M p a σ → Place (after k (searchFrom t M p a σ))
+  place-from : (p : List ℕ) (a : ℕ) (σ : S) (k : ℕ) → Reached t M p a σ → Place t M (after k (searchFrom t M p a σ))
   unfolding searchInside unmade onward
   place-from =
-      by-steps t M (λ p a σ. (k : ℕ) → Reached t M p a σ → Place (after k (searchFrom t M p a σ)))
+      by-steps t M (λ p a σ. (k : ℕ) → Reached t M p a σ → Place t M (after k (searchFrom t M p a σ)))
       (λ p a σ later-places k r. rw (search-step t M p a σ) (by p a σ k r (step t M p a σ) refl later-places))
     where
       by : (p : List ℕ) (a : ℕ) (σ : S) (k : ℕ) → Reached t M p a σ → (x : Step S) → step t M p a σ ≡ x →
-          ((es : List Event) (q : List ℕ) (b : ℕ) (τ : S) → step t M p a σ ≡ next es q b τ → (k : ℕ) → Reached t M q b τ → Place (after k (searchFrom t M q b τ))) →
-          Place (after k (onward (searchFrom t M) x))
+          ((es : List Event) (q : List ℕ) (b : ℕ) (τ : S) → step t M p a σ ≡ next es q b τ → (k : ℕ) → Reached t M q b τ → Place t M (after k (searchFrom t M q b τ))) →
+          Place t M (after k (onward (searchFrom t M) x))
       by p a σ k r (stop f) e rec = record { plan = p; choice = a; memory = σ; made = 0; reached = r; comes = rw (e, drop-nil k) }
       by p a σ k r (next es q b τ) e rec = in-step (decLe k (length es))
         where
-          in-step : Dec (k ≤ length es) → Place (after k (es then searchFrom t M q b τ))
+          in-step : Dec (k ≤ length es) → Place t M (after k (es then searchFrom t M q b τ))
           in-step (yes le) =
               record { plan = p; choice = a; memory = σ; made = k; reached = r; comes = rw (e, drop-append-le k es (searchFrom t M q b τ .events) le) }
           in-step (no nl) =
@@ -74,12 +61,12 @@ module _ (t : Tables) {S : Type 0} (M : Method S) where
               rw (rw z at (drop-append-add es (searchFrom t M q b τ .events) (k - length es))) (rec es q b τ e (k - length es) (later r e))
 
   -- wherever the search from the beginning is stopped, there is such a place
-  pub place-after : (k : ℕ) → Place (after k (search t M))
+  pub place-after : (k : ℕ) → Place t M (after k (search t M))
   unfolding search
   place-after k = place-from [] 0 (M .start) k start
 
   -- and from there, under the counts reached, it decides what the whole search decides
-  pub goes-on : (ca ta k : ℕ) (P : Place (after k (search t M))) → checks (take k (search t M .events)) ≤ ca → trials (take k (search t M .events)) ≤ ta →
+  pub goes-on : (ca ta k : ℕ) (P : Place t M (after k (search t M))) → checks (take k (search t M .events)) ≤ ca → trials (take k (search t M .events)) ≤ ta →
       cut ca ta (search t M) ≡
       cutFrom ca ta (checks (take k (search t M .events))) (trials (take k (search t M .events)))
       (searchInside t M (P .made) (P .plan) (P .choice) (P .memory) .events) (searchInside t M (P .made) (P .plan) (P .choice) (P .memory) .ending)

@@ -1,4 +1,4 @@
--- The jumping method over an honest forward move is justified: what conflict sets know. Assumes nothing.
+-- The jumping method over an honest forward move is justified: what conflict sets know.
 use mathlib.Core.Path.{_≡_, refl, _∙_}
 use mathlib.Core.Bool.{true, false, _||_}
 use mathlib.Core.List.{List, [], _∷_, _++_}

@@ -1,6 +1,5 @@
-pub mod Falling
+pub mod StepsLeft
 pub mod Runs
-pub mod Reached
 pub mod Inside
 pub mod Standing
 pub mod Sound
@@ -15,7 +14,6 @@ pub mod Looking
 pub mod Backward
 pub mod Marks
 pub mod Marked
-pub mod ByPlan
 pub mod Ahead
 pub mod AheadMembers
 pub mod Same

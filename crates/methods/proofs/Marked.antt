@@ -1,4 +1,4 @@
--- Backmarking over looking back: what the marks know at each place, that BM passes the same choices as BT, and that a trial makes no more checks. Assumes nothing.
+-- Backmarking over looking back: what the marks know at each place, that BM passes the same choices as BT, and that a trial makes no more checks.
 use mathlib.Core.Path.{_≡_, refl, sym, _∙_, ap}
 use mathlib.Core.Bool.{Bool, true, false, and-false}
 use mathlib.Core.List.{List, [], _∷_, _++_}
@@ -22,7 +22,8 @@ use Rattle.methods.specs.BM.{Marks, noMarks, lastLookedAt, marked, isCle
 use Rattle.methods.proofs.Runs.{at, at-take, at-snoc, at-last, readied, labelled}
 use Rattle.methods.proofs.Sound.{Justified}
 use Rattle.methods.proofs.Steps.{no-way, one-way, one-after, full}
-use Rattle.methods.proofs.Looking.{refuser, failing-is, refuser-none, look-trials}
+use Rattle.methods.specs.ByPlan.{refuser}
+use Rattle.methods.proofs.Looking.{failing-is, refuser-none, look-trials}
 use Rattle.methods.proofs.Marks.{Right, right-less, right-along, right-look, refuser-drop, checks-drop}
 
 module _ (t : Tables) where

@@ -1,4 +1,4 @@
--- What a right mark says, and that looking back may begin past boats that allow: it fails at the same boat, with no more checks. Assumes nothing.
+-- What a right mark says, and that looking back may begin past boats that allow: it fails at the same boat, with no more checks.
 use mathlib.Core.Path.{_≡_}
 use mathlib.Core.Bool.{Bool, true, false}
 use mathlib.Core.List.{List, [], _∷_}
@@ -15,7 +15,8 @@ use Rattle.methods.specs.Choices.{mayStand}
 use Rattle.methods.specs.BT.{lookAt, lookBack}
 use Rattle.methods.specs.BM.{lastLookedAt}
 use Rattle.methods.proofs.Runs.{at}
-use Rattle.methods.proofs.Looking.{refuser, refuser-some, refuser-none, refuser-first}
+use Rattle.methods.specs.ByPlan.{refuser}
+use Rattle.methods.proofs.Looking.{refuser-some, refuser-none, refuser-first}
 
 module _ (t : Tables) where
   -- v is a right mark for choice x of boat k, as far as the boats below c go: if v is one of them, it does not allow x, and those of them before v allow it

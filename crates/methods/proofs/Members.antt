@@ -1,4 +1,5 @@
--- The law on members: in every place that a jumping search comes to, each boat's conflict set holds lower boats alone. Assumes nothing.
+-- The laws on members: in every place that a jumping search comes to, each boat's conflict set holds lower boats alone, and so does what the boat at
+-- hand would jump by, its set with its blamers.
 use mathlib.Core.Path.{_≡_, refl, subst}
 use mathlib.Core.Bool.{Bool, true, false, cond}
 use mathlib.Core.List.{List, [], _∷_, _++_}
@@ -18,7 +19,7 @@ use Rattle.methods.specs.Machine.{next, step}
 use Rattle.methods.specs.Moves.{Boats, Verdict, pass, fail, passes, remembered, Forward}
 use Rattle.methods.specs.CBJ.{Sets, Jumping, blamed, deepest, handedDown, toBlame, jumping}
 use Rattle.methods.proofs.Runs.{stop-or-next, next-same, View, at-end, at-out, at-back, at-astray, at-skip, at-fail, at-pass, view}
-use Rattle.methods.proofs.Reached.{Reached, start, later}
+use Rattle.methods.specs.Reached.{Reached, start, later}
 use Rattle.methods.proofs.Sets.{deepest-some, jump-back}
 
 -- ---- sets alone
@@ -140,6 +141,9 @@ module _ (t : Tables) {S : Type 0} (F : Forward S) (Placed : List ℕ → S → 
   reached-known start = record { members = λ k j x. absurd x; placed = B .begin }
   reached-known (later {p = p} {a = a} {σ = σ} X e) = known-next p a σ (reached-known X) e (view t (jumping t F) p a σ)
 
-  -- THE LAW ON MEMBERS
+  -- THE LAWS ON MEMBERS
   pub members-below : {p : List ℕ} {a : ℕ} {σ : Jumping S} → Reached t (jumping t F) p a σ → MembersBelow (σ .sets)
   members-below X = reached-known X .members
+
+  pub to-blame-below : {p : List ℕ} {a : ℕ} {σ : Jumping S} → Reached t (jumping t F) p a σ → (j : ℕ) → T (toBlame F σ p j) → j < length p
+  to-blame-below {p} {a} {σ} X = let K = reached-known X in toBlame-members F p σ (K .members) (B .blamed p (σ .rest) (K .placed))

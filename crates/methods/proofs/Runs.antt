@@ -1,4 +1,4 @@
--- A whole run as an inductive family: the shape in which theorems about searches are proved. Each place has exactly one run. Assumes nothing.
+-- A whole run as an inductive family: the shape in which theorems about searches are proved. Each place has exactly one run.
 use mathlib.Core.Path.{_≡_, refl, sym, _∙_, ap}
 use mathlib.Core.Bool.{Bool, true, false}
 use mathlib.Core.List.{List, [], _∷_, _++_}
@@ -11,8 +11,8 @@ use borrow.Author.Tests.{ltb-true, ltb-false, lt-ltb, le-ltb}
 use Rattle.problem.specs.Tables.{Tables, boats}
 use Rattle.events.specs.Events.{Event, trial, Ending, solved, noPlan, astray, Search}
 use Rattle.methods.specs.Choices.{choices}
-use Rattle.methods.specs.Machine.{Tried, Left, nowhere, back, Method, Step, stop, next, tried, backTo, leave, atChoice, atBoat, atSea, step, onward, searchFrom, search}
-use Rattle.methods.proofs.Falling.{search-step, by-steps}
+use Rattle.methods.specs.Machine.{Tried, Left, nowhere, back, Steps, Step, stop, next, tried, backTo, leave, atChoice, atBoat, atPlan, step, onward, searchFrom, search}
+use Rattle.methods.proofs.StepsLeft.{search-step, by-steps}
 
 -- the choice that a plan so far has for boat k
 abbrev pub at : List ℕ → ℕ → ℕ
@@ -38,7 +38,7 @@ next-same x e f = (cc, cc, cc, cc)
 pub stop-same : {S : Type 0} (x : Step S) {r s : Ending} → x ≡ stop r → x ≡ stop s → r ≡ s
 stop-same x e f = cc
 
-module _ (t : Tables) {S : Type 0} (M : Method S) where
+module _ (t : Tables) {S : Type 0} (M : Steps S) where
   -- a whole run from here: its events, and its ending
   pub data Runs : List ℕ → ℕ → S → List Event → Ending → Type 0 where
     ends : {p : List ℕ} {a : ℕ} {σ : S} {r : Ending} → step t M p a σ ≡ stop r → Runs p a σ [] r
@@ -73,12 +73,12 @@ module _ (t : Tables) {S : Type 0} (M : Method S) where
   -- ---- each rule's step, from what it asks
   module _ (p : List ℕ) (a : ℕ) (σ : S) where
     pub step-end : boats t ≤ length p → step t M p a σ ≡ stop (solved p)
-    unfolding step atSea
-    step-end h = rw (le-ltb (length p) (boats t) h, atSea)
+    unfolding step atPlan
+    step-end h = rw (le-ltb (length p) (boats t) h, atPlan)
 
     at-boat : length p < boats t → (b : Bool) → ltb a (choices t (length p)) ≡ b → step t M p a σ ≡ atBoat t M p a σ b
-    unfolding step atSea
-    at-boat h b e = ap (atSea t M p a σ) (lt-ltb (length p) (boats t) h) ∙ ap (atBoat t M p a σ) e
+    unfolding step atPlan
+    at-boat h b e = ap (atPlan t M p a σ) (lt-ltb (length p) (boats t) h) ∙ ap (atBoat t M p a σ) e
 
     at-choice : length p < boats t → a < choices t (length p) → (b : Bool) → readied p a σ .passed ≡ b → step t M p a σ ≡ atChoice t M p a (readied p a σ) b
     unfolding atBoat

@@ -1,4 +1,4 @@
--- Two methods that do the same, whatever each remembers, make the same search. Assumes nothing.
+-- Two methods that do the same, whatever each remembers, make the same search.
 use mathlib.Core.Path.{_≡_, refl, sym, _∙_, ap, subst}
 use mathlib.Core.Bool.{Bool, true, false}
 use mathlib.Core.List.{List, [], _∷_, _++_}
@@ -9,7 +9,7 @@ use lib.ListN.{length, take}
 use Rattle.problem.specs.Tables.{Tables, boats}
 use Rattle.events.specs.Events.{Event, Ending}
 use Rattle.methods.specs.Choices.{choices}
-use Rattle.methods.specs.Machine.{Left, nowhere, back, Method, Step, stop, next, tried, backTo, leave, atChoice, atBoat, atSea, step, search}
+use Rattle.methods.specs.Machine.{Left, nowhere, back, Steps, Step, stop, next, tried, backTo, leave, atChoice, atBoat, atPlan, step, search}
 use Rattle.methods.proofs.Runs.{at, Runs, ends, goes, readied, labelled, runs, from-runs}
 
 -- what the two remember is related by R, at a plan so far and the next choice
@@ -26,7 +26,7 @@ module _ {S S′ : Type 0} (R : List ℕ → ℕ → S → S′ → Type 0) wher
   SameStep (next es p a σ) (stop s) = ⊥
   SameStep (next es p a σ) (next fs q b τ) = (es ≡ fs) × (p ≡ q) × (a ≡ b) × R p a σ τ
 
-module _ (t : Tables) {S S′ : Type 0} (M : Method S) (N : Method S′) (R : List ℕ → ℕ → S → S′ → Type 0) where
+module _ (t : Tables) {S S′ : Type 0} (M : Steps S) (N : Steps S′) (R : List ℕ → ℕ → S → S′ → Type 0) where
   -- from related memories the two methods do the same, and their memories stay related
   pub record Alike : Type 0 where
     pub same-ready : (p : List ℕ) (a : ℕ) (σ : S) (τ : S′) → R p a σ τ → length p < boats t → a < choices t (length p) →
@@ -78,8 +78,8 @@ module _ (t : Tables) {S S′ : Type 0} (M : Method S) (N : Method S′) (R : Li
           (same-choice lp (ltb-true _ _ e) (readied t M p a σ .passed) refl)
       same-boat lp false e = same-leave (A .same-way p a σ τ r lp (ltb-false _ _ e))
 
-      same-sea : (b : Bool) → ltb (length p) (boats t) ≡ b → SameStep R (atSea t M p a σ b) (atSea t N p a τ b)
-      unfolding atSea
+      same-sea : (b : Bool) → ltb (length p) (boats t) ≡ b → SameStep R (atPlan t M p a σ b) (atPlan t N p a τ b)
+      unfolding atPlan
       same-sea true e = same-boat (ltb-true _ _ e) (ltb a (choices t (length p))) refl
       same-sea false e = refl
 

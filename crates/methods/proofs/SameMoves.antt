@@ -1,4 +1,4 @@
--- Two forward moves that do the same, whatever each remembers: stepping over them makes the same search, and so does jumping. Assumes nothing.
+-- Two forward moves that do the same, whatever each remembers: stepping over them makes the same search, and so does jumping.
 use mathlib.Core.Path.{_≡_, refl, ap, ap₂, subst, fun-ext}
 use mathlib.Core.Bool.{true, false}
 use mathlib.Core.List.{List, [], _∷_, _++_}

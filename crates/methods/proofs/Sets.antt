@@ -1,4 +1,4 @@
--- Sets of boats by their members: the deepest member, a set that more boats are put into, a set that is handed down by a jump. Assumes nothing.
+-- Sets of boats by their members: the deepest member, a set that more boats are put into, a set that is handed down by a jump.
 use mathlib.Core.Path.{_≡_, refl, ap}
 use mathlib.Core.Bool.{Bool, true, false, _&&_, _||_, or-true}
 use mathlib.Core.Logic.{_≢_, _⊎_, inl, inr}

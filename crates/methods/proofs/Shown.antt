@@ -1,4 +1,4 @@
--- From choices to slots: what a search shows is what it did, the plans of choices that stand are the lawful plans, and the foremost is the first. Assumes nothing.
+-- From choices to slots: what a search shows is what it did, the plans of choices that stand are the lawful plans, and the foremost is the first.
 use mathlib.Core.Path.{_≡_, refl, sym, ap, ap₂, _∙_}
 use mathlib.Core.Logic.{_⊎_, inl, inr}
 use mathlib.Core.List.{List, [], _∷_, map}

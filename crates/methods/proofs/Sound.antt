@@ -1,4 +1,4 @@
--- Demand 2, once for all methods: a solved search has the foremost plan, 'no plan' means that none stands, and no search goes astray. Assumes nothing.
+-- Demand 2, once for all methods: a solved search has the foremost plan, 'no plan' means that none stands, and no search goes astray.
 use mathlib.Core.Path.{_≡_, refl, sym, _∙_}
 use mathlib.Core.Bool.{true, false}
 use mathlib.Core.List.{List, [], _∷_, _++_}
@@ -12,7 +12,7 @@ use lib.Seq.{length-take-le}
 use Rattle.problem.specs.Tables.{Tables, boats}
 use Rattle.events.specs.Events.{Event, Ending, solved, noPlan}
 use Rattle.methods.specs.Choices.{choices, mayStand}
-use Rattle.methods.specs.Machine.{nowhere, back, Method, stop, next, step}
+use Rattle.methods.specs.Machine.{nowhere, back, Steps, stop, next, step}
 use Rattle.methods.specs.Moves.{Boats, Verdict, pass, fail, passes, Forward}
 use Rattle.methods.proofs.Runs.{at, at-take, at-snoc, at-last, stop-or-next, next-same, stop-same, Runs, ends, goes, readied, labelled, View, at-end, at-out, at-back, at-astray, at-skip, at-fail, at-pass, view}
 use Rattle.methods.proofs.Standing.{Stands, NoneStands, Meaning, Fit, fit-start, fit-take, fit-snoc, fit-whole}
@@ -103,7 +103,7 @@ module _ (t : Tables) (F : Forward (Unit {0})) where
         (h : ℕ) → h < length p → T (mayStand t h (at p h) (length p) a)
 
   -- A method follows the forward move, and its ways back are justified. `Inv` is what the method knows of its state.
-  pub record Justified {S : Type 0} (M : Method S) (Inv : List ℕ → ℕ → S → Type 0) : Type 0 where
+  pub record Justified {S : Type 0} (M : Steps S) (Inv : List ℕ → ℕ → S → Type 0) : Type 0 where
     pub same-live : (p : List ℕ) (a : ℕ) (σ : S) → Inv p a σ → length p < boats t → a < choices t (length p) → readied t M p a σ .passed ≡ F .live tt p a
     pub same-pass : (p : List ℕ) (a : ℕ) (σ : S) → Inv p a σ → length p < boats t → a < choices t (length p) → readied t M p a σ .passed ≡ true →
         labelled t M p a σ .passed ≡ passes (F .trial tt p a .verdict)
@@ -136,7 +136,7 @@ module _ (t : Tables) (F : Forward (Unit {0})) where
       by-verdict (fail s) u =
           bars-more t (λ j. T (s j)) (λ j. j < length p) p (length p) a (H .fail-below p a s f h l m u) (H .failed p a s f h l m u)
 
-  module _ (H : Honest) {S : Type 0} (M : Method S) (Inv : List ℕ → ℕ → S → Type 0) (J : Justified M Inv) where
+  module _ (H : Honest) {S : Type 0} (M : Steps S) (Inv : List ℕ → ℕ → S → Type 0) (J : Justified M Inv) where
     pub record Holds (p : List ℕ) (a : ℕ) (σ : S) : Type 0 where
       pub fit : Fit t p
       pub behind : Behind t p a

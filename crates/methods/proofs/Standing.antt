@@ -1,4 +1,4 @@
--- Plans as lists of choices: those that stand, the first of them, and plans so far whose boats stand together. Assumes nothing.
+-- Plans as lists of choices: those that stand, the first of them, and plans so far whose boats stand together.
 use mathlib.Core.Path.{_≡_}
 use mathlib.Core.List.{List, [], _∷_, _++_}
 use Prim.Native.Nat.{ℕ, _≤_, _<_, zero-le}

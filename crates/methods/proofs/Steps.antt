@@ -1,4 +1,4 @@
--- The stepping method over an honest forward move is justified. Assumes nothing.
+-- The stepping method over an honest forward move is justified.
 use mathlib.Core.Path.{_≡_, refl, sym, ap, _∙_}
 use mathlib.Core.List.{List}
 use Prim.Native.Nat.{ℕ, zero, suc, _≤_, _<_}

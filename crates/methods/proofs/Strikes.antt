@@ -1,4 +1,4 @@
--- What forward checking's strikes know of the plan so far, and so that it does what looking ahead by the plan does. Assumes nothing.
+-- What forward checking's strikes know of the plan so far, and so that it does what looking ahead by the plan does.
 use mathlib.Core.Path.{_≡_, refl, sym, _∙_, ap, fun-ext}
 use mathlib.Core.Bool.{Bool, true, false, cond, not, _&&_, _||_, and-true, and-false, or-false, Bool·not-not}
 use mathlib.Core.List.{List, [], _∷_, _++_}
@@ -16,8 +16,8 @@ use Rattle.problem.proofs.Places.{is-true}
 use Rattle.methods.specs.Choices.{choices, mayStand}
 use Rattle.methods.specs.Moves.{some?}
 use Rattle.methods.specs.FC.{Strikes, noStrikes, isLive, strikers, slotChecks, choiceStays, sweep, struck, putBackFrom}
-use Rattle.methods.proofs.Looking.{may-unlisted, refuser, refuser-some}
-use Rattle.methods.proofs.ByPlan.{isNone, isFirst, isOpen, blamersOf, openChecks, openStays, openSweep}
+use Rattle.methods.proofs.Looking.{may-unlisted, refuser-some}
+use Rattle.methods.specs.ByPlan.{refuser, isNone, isFirst, isOpen, blamersOf, openChecks, openStays, openSweep}
 use Rattle.methods.proofs.Ahead.{some?-intro, some?-same}
 
 eqb-sym : (m n : ℕ) → eqb m n ≡ eqb n m

@@ -1,12 +1,12 @@
--- BM, backmarking: as BT, with a mark m for each boat and choice, and b for each boat, all 0 at the start. Assumes nothing.
+-- BM, backmarking: as BT, with a mark m for each boat and choice, and b for each boat, all 0 at the start.
 use mathlib.Core.Bool.{Bool, true, false, cond, _&&_}
-use mathlib.Core.List.{List, []}
+use mathlib.Core.List.{[]}
 use mathlib.Core.Option.{Option, none, some}
-use Prim.Native.Nat.{ℕ, zero, suc, pred, min}
+use Prim.Native.Nat.{ℕ, pred, min}
 use lib.Dec.{ltb, eqb}
 use lib.ListN.{length, drop}
 use Rattle.problem.specs.Tables.{Tables}
-use Rattle.methods.specs.Machine.{Tried, Method}
+use Rattle.methods.specs.Machine.{Tried, Steps}
 use Rattle.methods.specs.Moves.{oneBack}
 use Rattle.methods.specs.BT.{Looked, lookBack}
 
@@ -38,7 +38,7 @@ markedTrial σ i a r false = record { checks = r .checks; passed = isClear (r .f
 abbrev pub lowered : Marks → (i h : ℕ) → Marks
 lowered σ i h = record { m = σ .m; b = λ j. cond (eqb j i) h (cond (ltb i j) (min (σ .b j) h) (σ .b j)) }
 
-unfoldable pub bm : Tables → Method Marks
+unfoldable pub bm : Tables → Steps Marks
 bm t =
     record {
       start = noMarks;

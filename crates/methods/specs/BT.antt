@@ -1,5 +1,5 @@
 -- BT, plain backtracking: at boat i each choice in turn is checked against boats 0, 1, .. i - 1; the first that passes moves on to i + 1;
--- no choice left: back to i - 1, which gives up its choice and goes on with its next; from boat 0: no plan. Assumes nothing.
+-- no choice left: back to i - 1, which gives up its choice and goes on with its next; from boat 0: no plan.
 use mathlib.Core.Bool.{Bool, true, false}
 use mathlib.Core.List.{List, [], _∷_}
 use mathlib.Core.Option.{Option, none, some}
@@ -8,8 +8,8 @@ use lib.ListN.{length}
 use Rattle.problem.specs.Tables.{Tables, isListed}
 use Rattle.events.specs.Events.{Event, check}
 use Rattle.methods.specs.Choices.{mayStand}
-use Rattle.methods.specs.Machine.{Method}
-use Rattle.methods.specs.Moves.{Boats, nobody, only, Verdict, pass, fail, Forward, stepping}
+use Rattle.methods.specs.Machine.{Steps}
+use Rattle.methods.specs.Moves.{nobody, only, Verdict, pass, fail, Forward, stepping}
 
 -- the checks of a trial, and the boat against which one failed
 pub record Looked : Type 0 where
@@ -42,5 +42,5 @@ lookingBack t =
       putBack = λ h σ. σ;
     }
 
-unfoldable pub bt : Tables → Method (Unit {0})
+unfoldable pub bt : Tables → Steps (Unit {0})
 bt t = stepping (lookingBack t)

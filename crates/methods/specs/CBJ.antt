@@ -1,12 +1,12 @@
--- CBJ, conflict-directed backjumping: as BT, and each boat has a conflict set. Assumes nothing.
-use mathlib.Core.Bool.{Bool, true, false, cond, not, _&&_, _||_}
+-- CBJ, conflict-directed backjumping: as BT, and each boat has a conflict set.
+use mathlib.Core.Bool.{false, cond, not, _&&_, _||_}
 use mathlib.Core.List.{List, []}
 use mathlib.Core.Option.{Option, none, some}
 use Prim.Native.Nat.{ℕ, zero, suc}
 use lib.Dec.{ltb, leb, eqb}
 use lib.ListN.{length}
 use Rattle.problem.specs.Tables.{Tables, boats}
-use Rattle.methods.specs.Machine.{Tried, Left, nowhere, back, Method}
+use Rattle.methods.specs.Machine.{Left, nowhere, back, Steps}
 use Rattle.methods.specs.Moves.{Boats, Verdict, pass, fail, passes, remembered, Forward}
 use Rattle.methods.specs.BT.{lookingBack}
 
@@ -42,7 +42,7 @@ abbrev pub toBlame : {S : Type 0} → Forward S → Jumping S → (plan : List �
 toBlame F σ p = λ j. σ .sets (length p) j || F .blamers (σ .rest) p j
 
 -- jumping over a forward move. A boat that moves forward keeps its set
-abbrev pub jumping : Tables → {S : Type 0} → Forward S → Method (Jumping S)
+abbrev pub jumping : Tables → {S : Type 0} → Forward S → Steps (Jumping S)
 jumping t F =
     record {
       start = record { sets = λ k j. false; rest = F .start };
@@ -58,5 +58,5 @@ jumping t F =
       unlabel = λ σ p. jump F σ (length p) (toBlame F σ p) (deepest (boats t) (toBlame F σ p));
     }
 
-unfoldable pub cbj : Tables → Method (Jumping (Unit {0}))
+unfoldable pub cbj : Tables → Steps (Jumping (Unit {0}))
 cbj t = jumping t (lookingBack t)

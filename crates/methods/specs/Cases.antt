@@ -1,17 +1,17 @@
 -- The thirteen harbour cases that are proved, as one table; and a second table, of cases that tell apart definitions which the harbour cases do not.
--- (Document 01, 'Harbour cases' and 'What the promises hold down'.) Both are computed from the definitions. Assumes nothing.
+-- (Document 01, 'Harbour cases' and 'What the promises hold down'.) Both are computed from the definitions.
 use mathlib.Core.Path.{_≡_, refl}
 use mathlib.Core.List.{List, [], _∷_, map}
 use Prim.Native.Nat.{ℕ, _-_, _^_}
 use Rattle.problem.specs.Lowest.{lowestFrom, lowest, sum}
-use Rattle.problem.specs.Tables.{Tables, place, isListed, start, allowed}
-use Rattle.problem.specs.declared.Way.{Way}
-use Rattle.problem.specs.declared.Way.the-variants.{Bt, Cbj, Bm, Fc, FcCbj}
+use Rattle.problem.specs.Tables.{Tables, tables as tablesOf, place, isListed, start, allowed}
+use Rattle.problem.specs.declared.Method.{Method}
+use Rattle.problem.specs.declared.Method.the-variants.{Bt, Cbj, Bm, Fc, FcCbj}
 use Rattle.problem.specs.declared.Allowance.the-variants.{Checks, Trials}
 use Rattle.events.specs.Events.{solved, noPlan}
 use Rattle.events.specs.Allowances.{Decision, decided, undecided, Outcome, outcome, cutFrom, cut}
 use Rattle.methods.specs.Choices.{choices, slotOf, mayStand, shownEvent, shownPlan, shownEnding, shown}
-use Rattle.methods.specs.Machine.{tried, backTo, leave, atChoice, atBoat, atSea, step, onward, run, counts, span, ahead, searchFrom, search}
+use Rattle.methods.specs.Machine.{tried, backTo, leave, atChoice, atBoat, atPlan, step, onward, boundedSearch, counts, span, stepsLeft, searchFrom, search}
 use Rattle.methods.specs.Moves.{some?}
 use Rattle.methods.specs.BT.{lookBack, lookingBack, bt}
 use Rattle.methods.specs.CBJ.{deepest, cbj}
@@ -22,7 +22,7 @@ use Rattle.methods.specs.Methods.{searchBy}
 
 -- a method on tables with allowances, and what comes of it
 pub record Case : Type 0 where
-  pub method : Way
+  pub method : Method
   pub tables : Tables
   pub checks : ℕ
   pub trials : ℕ
@@ -31,15 +31,12 @@ pub record Case : Type 0 where
 abbrev pub ample : ℕ
 ample = 2 ^ 64 - 1
 
-abbrev pub case : Way → Tables → (checks trials : ℕ) → Decision → (made tried : ℕ) → Case
+abbrev pub case : Method → Tables → (checks trials : ℕ) → Decision → (made tried : ℕ) → Case
 case m t ca ta d c n = record { method = m; tables = t; checks = ca; trials = ta; expected = outcome d c n }
-
-abbrev pub tablesOf : (sizes pairs rows : List ℕ) → Tables
-tablesOf sizes pairs rows = record { sizes = sizes; pairs = pairs; rows = rows }
 
 -- what the definitions say. (To unfold this is to unfold all that its line names)
 unfoldable pub comesOf : Case → Outcome
-unfolding searchBy shown shownEvent shownPlan shownEnding slotOf choices mayStand cut cutFrom search searchFrom run onward step atSea atBoat atChoice tried leave backTo counts span ahead bt lookingBack lookBack cbj deepest bm fc lookingAhead isLive strikers slotChecks choiceStays sweep struck endOfSweep putBackFrom some? fccbj lowestFrom lowest sum place isListed start allowed
+unfolding searchBy shown shownEvent shownPlan shownEnding slotOf choices mayStand cut cutFrom search searchFrom boundedSearch onward step atPlan atBoat atChoice tried leave backTo counts span stepsLeft bt lookingBack lookBack cbj deepest bm fc lookingAhead isLive strikers slotChecks choiceStays sweep struck endOfSweep putBackFrom some? fccbj lowestFrom lowest sum place isListed start allowed
 comesOf k = cut (k .checks) (k .trials) (searchBy (k .method) (k .tables))
 
 -- ---- the thirteen

@@ -1,8 +1,8 @@
 -- Which slots boat i tries, in which order. A search goes by choices: choice k of boat i, k = 0, 1, .. below `choices`, is the slot `slotOf`.
--- (Document 01: 'Slots are always taken in rising order'. Requests 3 and 7 change these two definitions.) Assumes nothing.
+-- (Document 01: 'Slots are always taken in rising order'. Request 3 changes `slotOf`.)
 use mathlib.Core.Bool.{Bool}
 use mathlib.Core.List.{List, [], _∷_, map}
-use Prim.Native.Nat.{ℕ, zero, suc}
+use Prim.Native.Nat.{ℕ, suc}
 use Rattle.problem.specs.Tables.{Tables, size, allowed}
 use Rattle.events.specs.Events.{Event, trial, check, Ending, solved, noPlan, astray, Search}
 

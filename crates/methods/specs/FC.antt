@@ -1,4 +1,4 @@
--- FC, forward checking: a trial at boat i strikes, at each later boat listed with i, the live choices that i's does not allow. Assumes nothing.
+-- FC, forward checking: a trial at boat i strikes, at each later boat listed with i, the live choices that i's does not allow.
 use mathlib.Core.Bool.{Bool, true, false, not, _&&_, _||_}
 use mathlib.Core.List.{List, [], _∷_, _++_}
 use mathlib.Core.Option.{Option, none, some}
@@ -8,7 +8,7 @@ use lib.ListN.{length}
 use Rattle.problem.specs.Tables.{Tables, boats, isListed}
 use Rattle.events.specs.Events.{Event, check}
 use Rattle.methods.specs.Choices.{choices, mayStand}
-use Rattle.methods.specs.Machine.{Method}
+use Rattle.methods.specs.Machine.{Steps}
 use Rattle.methods.specs.Moves.{Boats, some?, Verdict, pass, fail, Forward, stepping}
 
 -- the trial of boat h struck choice b of boat j
@@ -85,5 +85,5 @@ lookingAhead t =
       putBack = putBackFrom;
     }
 
-unfoldable pub fc : Tables → Method Strikes
+unfoldable pub fc : Tables → Steps Strikes
 fc t = stepping (lookingAhead t)

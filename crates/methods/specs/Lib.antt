@@ -1,11 +1,13 @@
 pub mod Choices
 pub mod Machine
+pub mod Reached
 pub mod Moves
 pub mod BT
 pub mod CBJ
 pub mod BM
 pub mod FC
 pub mod FCCBJ
+pub mod ByPlan
 pub mod Methods
 pub mod Promises
 pub mod Cases

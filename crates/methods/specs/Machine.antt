@@ -1,4 +1,4 @@
--- The machine that all methods share: forward to the next boat, on to the next slot, back to a boat. Assumes nothing.
+-- The machine that all methods share: forward to the next boat, on to the next slot, back to a boat.
 use mathlib.Core.Bool.{Bool, true, false}
 use mathlib.Core.List.{List, [], _∷_, _++_}
 use Prim.Native.Nat.{ℕ, zero, suc, _+_, _-_, _*_}
@@ -20,9 +20,9 @@ pub data Left (S : Type 0) : Type 0 where
   nowhere : Left S
   back : (h : ℕ) → S → Left S
 
-pub record Method (S : Type 0) : Type 0 where
+pub record Steps (S : Type 0) : Type 0 where
   pub start : S
-  -- before a trial: the checks that still wait, and whether the choice is tried at all
+  -- before a trial: whether the choice is tried at all. (The five methods make no check there; request 12 does)
   pub ready : S → (plan : List ℕ) → (choice : ℕ) → Tried S
   -- the trial
   pub label : S → (plan : List ℕ) → (choice : ℕ) → Tried S
@@ -49,7 +49,7 @@ module _ {S : Type 0} (p : List ℕ) (a : ℕ) where
   leave nowhere = stop noPlan
   leave (back h σ) = backTo h σ (ltb h (length p))
 
-module _ (t : Tables) {S : Type 0} (M : Method S) (p : List ℕ) (a : ℕ) where
+module _ (t : Tables) {S : Type 0} (M : Steps S) (p : List ℕ) (a : ℕ) where
   -- a choice that is ready is tried; any other is passed over
   unfoldable pub atChoice : (r : Tried S) → (ready : Bool) → Step S
   atChoice r true =
@@ -62,21 +62,21 @@ module _ (t : Tables) {S : Type 0} (M : Method S) (p : List ℕ) (a : ℕ) where
   atBoat σ false = leave p a (M .unlabel σ p)
 
   -- past the last boat the problem is solved
-  unfoldable pub atSea : S → (boatLeft : Bool) → Step S
-  atSea σ true = atBoat σ (ltb a (choices t (length p)))
-  atSea σ false = stop (solved p)
+  unfoldable pub atPlan : S → (boatLeft : Bool) → Step S
+  atPlan σ true = atBoat σ (ltb a (choices t (length p)))
+  atPlan σ false = stop (solved p)
 
   unfoldable pub step : S → Step S
-  step σ = atSea σ (ltb (length p) (boats t))
+  step σ = atPlan σ (ltb (length p) (boats t))
 
 -- ---- a search from some place on: all its steps. `fuel` bounds their number
 unfoldable pub onward : {S : Type 0} → (rest : List ℕ → ℕ → S → Search) → Step S → Search
 onward rest (stop r) = record { events = []; ending = r }
 onward rest (next es p a σ) = es then rest p a σ
 
-unfoldable pub run : (t : Tables) {S : Type 0} (M : Method S) (fuel : ℕ) → List ℕ → ℕ → S → Search
-run t M zero p a σ = record { events = []; ending = astray }
-run t M (suc fuel) p a σ = onward (λ q b τ. run t M fuel q b τ) (step t M p a σ)
+unfoldable pub boundedSearch : (t : Tables) {S : Type 0} (M : Steps S) (fuel : ℕ) → List ℕ → ℕ → S → Search
+boundedSearch t M zero p a σ = record { events = []; ending = astray }
+boundedSearch t M (suc fuel) p a σ = onward (λ q b τ. boundedSearch t M fuel q b τ) (step t M p a σ)
 
 -- the choices of so many boats from boat i on
 unfoldable pub counts : Tables → (i boats : ℕ) → List ℕ
@@ -89,16 +89,16 @@ span [] = 1
 span (s ∷ ss) = suc (s * suc (span ss))
 
 -- from a plan so far on, with choice a of the boat at hand next
-unfoldable pub ahead : List ℕ → (plan : List ℕ) → (choice : ℕ) → ℕ
-ahead [] p a = 1
-ahead (s ∷ ss) [] a = suc ((s - a) * suc (span ss))
-ahead (s ∷ ss) (x ∷ p) a = suc ((s - suc x) * suc (span ss)) + ahead ss p a
+unfoldable pub stepsLeft : List ℕ → (plan : List ℕ) → (choice : ℕ) → ℕ
+stepsLeft [] p a = 1
+stepsLeft (s ∷ ss) [] a = suc ((s - a) * suc (span ss))
+stepsLeft (s ∷ ss) (x ∷ p) a = suc ((s - suc x) * suc (span ss)) + stepsLeft ss p a
 
-unfoldable pub searchFrom : (t : Tables) {S : Type 0} (M : Method S) → (plan : List ℕ) → (choice : ℕ) → S → Search
-searchFrom t M p a σ = run t M (ahead (counts t 0 (boats t)) p a) p a σ
+unfoldable pub searchFrom : (t : Tables) {S : Type 0} (M : Steps S) → (plan : List ℕ) → (choice : ℕ) → S → Search
+searchFrom t M p a σ = boundedSearch t M (stepsLeft (counts t 0 (boats t)) p a) p a σ
 
 -- from the beginning
-unfoldable pub search : (t : Tables) {S : Type 0} (M : Method S) → Search
+unfoldable pub search : (t : Tables) {S : Type 0} (M : Steps S) → Search
 search t M = searchFrom t M [] 0 (M .start)
 
 -- ---- from a place inside a trial (No. 10): plan, choice and memory are those before the step, and so many of its events are made and come no more
@@ -106,5 +106,5 @@ unfoldable pub unmade : {S : Type 0} → (made : ℕ) → Step S → Step S
 unmade made (stop r) = stop r
 unmade made (next es p a σ) = next (drop made es) p a σ
 
-unfoldable pub searchInside : (t : Tables) {S : Type 0} (M : Method S) → (made : ℕ) → (plan : List ℕ) → (choice : ℕ) → S → Search
+unfoldable pub searchInside : (t : Tables) {S : Type 0} (M : Steps S) → (made : ℕ) → (plan : List ℕ) → (choice : ℕ) → S → Search
 searchInside t M made p a σ = onward (searchFrom t M) (unmade made (step t M p a σ))

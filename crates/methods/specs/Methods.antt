@@ -1,7 +1,7 @@
--- What each of the five methods does on given tables. Assumes nothing.
+-- What each of the five methods does on given tables.
 use Rattle.problem.specs.Tables.{Tables}
-use Rattle.problem.specs.declared.Way.{Way}
-use Rattle.problem.specs.declared.Way.the-variants.{Bt, Cbj, Bm, Fc, FcCbj}
+use Rattle.problem.specs.declared.Method.{Method}
+use Rattle.problem.specs.declared.Method.the-variants.{Bt, Cbj, Bm, Fc, FcCbj}
 use Rattle.events.specs.Events.{Search}
 use Rattle.methods.specs.Choices.{shown}
 use Rattle.methods.specs.Machine.{search}
@@ -12,7 +12,7 @@ use Rattle.methods.specs.FC.{fc}
 use Rattle.methods.specs.FCCBJ.{fccbj}
 
 -- the whole search, without allowances, told in slots
-unfoldable pub searchBy : Way → Tables → Search
+unfoldable pub searchBy : Method → Tables → Search
 searchBy Bt t = shown t (search t (bt t))
 searchBy Cbj t = shown t (search t (cbj t))
 searchBy Bm t = shown t (search t (bm t))

@@ -1,11 +1,11 @@
--- A method is a forward move and a backward move. Here is what a forward move is, and the backward move that goes back by one boat. Assumes nothing.
+-- A method is a forward move and a backward move. Here is what a forward move is, and the backward move that goes back by one boat.
 use mathlib.Core.Bool.{Bool, true, false, _||_}
 use mathlib.Core.List.{List, []}
 use Prim.Native.Nat.{ℕ, zero, suc}
 use lib.Dec.{eqb}
 use lib.ListN.{length}
 use Rattle.events.specs.Events.{Event}
-use Rattle.methods.specs.Machine.{Tried, Left, nowhere, back, Method}
+use Rattle.methods.specs.Machine.{Left, nowhere, back, Steps}
 
 -- a set of boats
 abbrev pub Boats : Type 0
@@ -55,7 +55,7 @@ abbrev pub oneBack : {S : Type 0} → (boat : ℕ) → (ℕ → S) → Left S
 oneBack zero after = nowhere
 oneBack (suc h) after = back h (after h)
 
-abbrev pub stepping : {S : Type 0} → Forward S → Method S
+abbrev pub stepping : {S : Type 0} → Forward S → Steps S
 stepping F =
     record {
       start = F .start;

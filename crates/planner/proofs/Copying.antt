@@ -1,4 +1,4 @@
--- A loop that copies the front of a list over another's, one store a turn. Assumes nothing.
+-- A loop that copies the front of a list over another's, one store a turn.
 use mathlib.Core.Path.{_≡_, refl, ap}
 use mathlib.Core.List.{List, [], _∷_, _++_}
 use Prim.Native.Nat.{ℕ, zero, suc, _+_, _<_}

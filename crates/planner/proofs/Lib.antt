@@ -1,12 +1,6 @@
-pub mod Put
-pub mod Labels
-pub mod PutAhead
-pub mod Preparing
-pub mod Backwards
-pub mod Jumping
-pub mod Walk
 pub mod Copying
 pub mod Refusing
-pub mod Whole
+pub mod Accepting
+pub mod Finished
 pub mod Theorems
 pub mod Wrong

@@ -1,100 +1,37 @@
--- THE THEOREMS ON `run` that a reader is shown: the three demands of its reply and of the lent memory, for every input. (`run` promises that its
--- reply and the memory that it leaves are `runResult`, in specs/Runs.antt.) Assumes nothing.
+-- THE THEOREMS ON `run` that a reader is shown: the three demands, of its reply and of the lent memory, for every input. (`run` promises that its reply
+-- and the memory that it leaves are `runResult`, in specs/Runs.antt.) The answers are 0 solved, 1 no plan, 2 undecided by checks, 3 undecided by trials;
+-- refusals count from 100.
 use mathlib.Core.Path.{_≡_, refl, sym, ap, _∙_, subst}
-use mathlib.Core.Logic.{⊎-elim}
-use mathlib.Core.Bool.{Bool, true, false}
-use mathlib.Core.List.{List, [], _∷_, _++_}
-use Prim.Native.Nat.{ℕ, zero, suc, _≤_, _<_}
+use mathlib.Core.Logic.{_⊎_, inl, inr, ⊎-elim}
+use mathlib.Core.List.{List, []}
+use Prim.Native.Nat.{ℕ, _≤_, _<_}
 use native.Mathlib.Omega.{arith}
+use lib.Dec.{ltb}
 use lib.ListN.{length, take, drop}
-use lib.Seq.{take-at, drop-append-seam}
+use lib.Seq.{take-at}
 use Rattle.problem.specs.Tables.{Tables, boats}
 use Rattle.problem.specs.Plans.{First, NoPlan}
-use Rattle.problem.specs.Ways.{wayOf}
+use Rattle.problem.specs.Methods.{methodOf}
 use Rattle.problem.specs.Replies.{Told, told}
-use Rattle.problem.specs.declared.Allowance.the-variants.{Checks, Trials}
-use Rattle.problem.specs.declared.Way.{Way as Method}
-use Rattle.problem.specs.declared.Way.the-variants.{Bt, Cbj, Bm, Fc, FcCbj}
-use Rattle.problem.specs.declared.Known.the-variants.{Way}
+use Rattle.problem.specs.declared.Method.{Method}
+use Rattle.problem.specs.declared.MethodFound.the-variants.{Found}
+use Rattle.problem.proofs.Plans.{first-unique}
 use Rattle.tables.specs.Tests.{Test, firstOf}
-use Rattle.tables.specs.Applies.{Fails, NoneApplies, none, nor, Gives}
-use Rattle.tables.specs.Examination.{tests, Fine}
-use Rattle.tables.proofs.Laws.{gives-refused, gives-first, first-gives, none-fine, none-is-fine}
-use Rattle.events.specs.Events.{Ending, solved, noPlan, astray}
-use Rattle.events.specs.Allowances.{Decision, decided, undecided, Outcome, outcome, cut}
-use Rattle.events.proofs.Laws.{OutOfChecks, OutOfTrials, checks-undecided, trials-undecided}
+use Rattle.tables.specs.Applies.{NoneApplies, Gives}
+use Rattle.tables.proofs.Laws.{gives-refused, gives-first, first-gives}
+use Rattle.events.specs.Events.{Search, checksOf, trialsOf}
+use Rattle.events.specs.Allowances.{decided, Outcome, cut}
+use Rattle.events.specs.Undecided.{OutOfChecks, OutOfTrials}
+use Rattle.events.proofs.Laws.{fits-decides, decided-fits, undecided-checks, checks-undecided, undecided-trials, trials-undecided, within-allowances}
 use Rattle.methods.specs.Methods.{searchBy}
 use Rattle.methods.specs.Promises.{Saves}
-use Rattle.methods.proofs.Theorems.{decides-rightly, saves-only, raising-changes-nothing}
-use Rattle.planner.specs.Runs.{notOneToFive, runTests, refusalOfRun, Result, refusedResult, decisionTold, written, finishedResult, runResult}
-use Rattle.planner.proofs.Refusing.{known-passes, above-five, result-refused, result-finished}
-
--- ---- what an answer tells of a decision
-pub record Decides (d : Decision) : Type 0 where
-  pub ending : Ending
-  pub is : d ≡ decided ending
-
-decides : (d : Decision) → decisionTold d .number < 2 → Decides d
-decides (decided r) l = record { ending = r; is = refl }
-decides (undecided Checks) l = absurd (omega arith)
-decides (undecided Trials) l = absurd (omega arith)
-
-solves : (d : Decision) → decisionTold d ≡ told 0 [] → (p : List ℕ) → p ≡ written d → d ≡ decided (solved p)
-solves (decided (solved q)) e p w = ap (λ (x : List ℕ). decided (solved x)) (sym w)
-solves (decided noPlan) e p w = absurd (omega (arith, ap (λ (x : Told). x .number) e))
-solves (decided astray) e p w = absurd (omega (arith, ap (λ (x : Told). x .number) e))
-solves (undecided Checks) e p w = absurd (omega (arith, ap (λ (x : Told). x .number) e))
-solves (undecided Trials) e p w = absurd (omega (arith, ap (λ (x : Told). x .number) e))
-
-none-found : (d : Decision) → decisionTold d ≡ told 1 [] → d ≡ decided noPlan
-none-found (decided (solved q)) e = absurd (omega (arith, ap (λ (x : Told). x .number) e))
-none-found (decided noPlan) e = refl
-none-found (decided astray) e = absurd (omega (arith, ap (λ (x : Told). x .number) e))
-none-found (undecided Checks) e = absurd (omega (arith, ap (λ (x : Told). x .number) e))
-none-found (undecided Trials) e = absurd (omega (arith, ap (λ (x : Told). x .number) e))
-
-out-of-checks : (d : Decision) → decisionTold d ≡ told 2 [] → d ≡ undecided Checks
-out-of-checks (decided (solved q)) e = absurd (omega (arith, ap (λ (x : Told). x .number) e))
-out-of-checks (decided noPlan) e = absurd (omega (arith, ap (λ (x : Told). x .number) e))
-out-of-checks (decided astray) e = absurd (omega (arith, ap (λ (x : Told). x .number) e))
-out-of-checks (undecided Checks) e = refl
-out-of-checks (undecided Trials) e = absurd (omega (arith, ap (λ (x : Told). x .number) e))
-
-out-of-trials : (d : Decision) → decisionTold d ≡ told 3 [] → d ≡ undecided Trials
-out-of-trials (decided (solved q)) e = absurd (omega (arith, ap (λ (x : Told). x .number) e))
-out-of-trials (decided noPlan) e = absurd (omega (arith, ap (λ (x : Told). x .number) e))
-out-of-trials (decided astray) e = absurd (omega (arith, ap (λ (x : Told). x .number) e))
-out-of-trials (undecided Checks) e = absurd (omega (arith, ap (λ (x : Told). x .number) e))
-out-of-trials (undecided Trials) e = refl
-
--- ---- tests that do not apply
-none-later : {test : Test} {ts : List Test} → NoneApplies (test ∷ ts) → NoneApplies ts
-none-later (nor f n) = n
-
-none-first : {test : Test} {ts : List Test} → NoneApplies (test ∷ ts) → Fails test
-none-first (nor f n) = f
-
-none-before : (pre post : List Test) → NoneApplies (pre ++ post) → NoneApplies pre
-none-before [] post n = none
-none-before (test ∷ pre) post n = nor (none-first n) (none-before pre post (none-later n))
-
--- one of the five
-pub record Knows (method : ℕ) : Type 0 where
-  pub way : Method
-  pub known : wayOf method ≡ Way way
-
-true-and-false : {b : Bool} → b ≡ true → b ≡ false → ⊥
-true-and-false e f = let z : _≡_ {A = ℕ} 0 1 = cc in omega arith
-
-knows : (n : ℕ) → notOneToFive n ≡ false → Knows n
-knows zero e = let z : _≡_ {A = ℕ} 0 1 = cc in absurd (omega arith)
-knows (suc zero) e = record { way = Bt; known = refl }
-knows (suc (suc zero)) e = record { way = Cbj; known = refl }
-knows (suc (suc (suc zero))) e = record { way = Bm; known = refl }
-knows (suc (suc (suc (suc zero)))) e = record { way = Fc; known = refl }
-knows (suc (suc (suc (suc (suc zero))))) e = record { way = FcCbj; known = refl }
-knows (suc (suc (suc (suc (suc (suc n)))))) e =
-    absurd (true-and-false (above-five (suc (suc (suc (suc (suc (suc n)))))) (omega arith)) e)
+use Rattle.methods.proofs.Theorems.{saves-only, raising-changes-nothing}
+use Rattle.words.specs.Layout.{word}
+use Rattle.words.proofs.Zeroed.{zeroed-at, zeroed-long, zeroed-later}
+use Rattle.planner.specs.Runs.{runTests, refusalOfRun, Result, refusedResult, decisionTold, finishedResult, runResult}
+use Rattle.planner.specs.Promises.{OneOfFour, Leaves, Alike}
+use Rattle.planner.proofs.Refusing.{result-refused, same-but-words}
+use Rattle.planner.proofs.Accepting.{Accepted, accepted, elsewhere, under, four-small, decided-small, out, searches, outcome-is, decided-is, means, answers, plan-is, writes-first, plan-same, plan-long, plan-later}
 
 module _ (method : ℕ) (t : Tables) (plan work : List ℕ) (checks trials : ℕ) where
   abbrev reply : Result
@@ -103,103 +40,185 @@ module _ (method : ℕ) (t : Tables) (plan work : List ℕ) (checks trials : ℕ
   abbrev all : List Test
   all = runTests method t (length plan) (length work)
 
-  -- ---- DEMAND 1: a refusal is what the first test that applies says at its lowest place; the counts are 0 and nothing has changed
+  accepts : NoneApplies all → Accepted method t plan work checks trials
+  accepts = accepted method t plan work checks trials
+
+  -- ---- DEMAND 1
+  -- the first test that applies speaks, at its lowest place; the counts are 0 and nothing lent has changed
   pub run-refuses-first : (why : Told) → Gives all why → reply ≡ refusedResult why plan work
   unfolding refusalOfRun
   run-refuses-first why g = result-refused method t plan work checks trials (gives-first all (told 0 []) why g) (gives-refused all why g (omega arith))
 
-  -- and only then is a run refused
-  pub run-refused-only-then : reply .answer .number < 100 → NoneApplies all
-  run-refused-only-then l =
-      ⊎-elim (λ n. n)
-      (λ g. absurd (omega (arith, l, ap (λ (r : Result). r .answer .number) (run-refuses-first (firstOf all (told 0 [])) g), gives-refused all (firstOf all (told 0 [])) g (omega arith))))
+  -- where none applies the method's search is made, cut by the allowances
+  pub run-searches : NoneApplies all → (chosen : Method) → methodOf method ≡ Found chosen → reply ≡ finishedResult (cut checks trials (searchBy chosen t)) plan work
+  run-searches n chosen known = searches (under (accepts n) known)
+
+  -- and such a run is not refused
+  pub run-not-refused : NoneApplies all → reply .answer .number < 100
+  run-not-refused n = omega (arith, four-small (reply .answer) (answers (accepts n)))
+
+  one-or-none : NoneApplies all ⊎ Gives all (reply .answer)
+  one-or-none =
+      ⊎-elim inl
+      (λ g. inr (subst (Gives all) (ap (λ (r : Result). r .answer) (sym (run-refuses-first (firstOf all (told 0 [])) g))) g))
       (first-gives all (told 0 []))
 
-  -- where none applies the method's search is made, cut by the allowances
-  module _ (n : NoneApplies all) where
-    fine : Fine t
-    fine = none-is-fine t (none-before (tests t) _ (none-later n))
+  -- no refusal without its cause: it is what the first test that applies says at its lowest place
+  pub run-refusal-has-cause : 100 ≤ reply .answer .number → Gives all (reply .answer)
+  run-refusal-has-cause l = ⊎-elim (λ n. absurd (omega (arith, run-not-refused n))) (λ g. g) one-or-none
 
-    by : Knows method
-    by = knows method (none-first n 0 (omega arith))
+  -- and where a run is not refused no test applies
+  pub run-unrefused-no-cause : reply .answer .number < 100 → NoneApplies all
+  run-unrefused-no-cause l = ⊎-elim (λ n. n) (λ g. absurd (omega (arith, gives-refused all (reply .answer) g (omega arith)))) one-or-none
 
-    pub run-searches : (way : Method) → wayOf method ≡ Way way → reply ≡ finishedResult (cut checks trials (searchBy way t)) plan work
-    unfolding refusalOfRun
-    run-searches way k = result-finished method t plan work checks trials way k (none-fine all (told 0 []) n)
+  -- a refusal has counts 0 and changes no lent memory
+  pub run-refusal-changes-nothing : 100 ≤ reply .answer .number → reply ≡ refusedResult (reply .answer) plan work
+  run-refusal-changes-nothing l = run-refuses-first (reply .answer) (run-refusal-has-cause l)
 
-    abbrev out : Outcome
-    out = cut checks trials (searchBy (by .way) t)
+  -- a run that is not refused answers one of: solved, no plan, undecided by checks, undecided by trials
+  pub run-answers-one-of-four : reply .answer .number < 100 → OneOfFour (reply .answer)
+  run-answers-one-of-four l = answers (accepts (run-unrefused-no-cause l))
 
-    searches : reply ≡ finishedResult out plan work
-    searches = run-searches (by .way) (by .known)
+  -- after all four its memory is left as `Leaves` says
+  pub run-leaves : reply .answer .number < 100 → Leaves t plan work reply
+  run-leaves l =
+      let a = accepts (run-unrefused-no-cause l) in
+      record {
+        notSolved = plan-same a;
+        laterBytes = plan-later a;
+        planBytes = plan-long a;
+        zeroWords = λ k lk. rw (searches a) (zeroed-at 8192 k work lk);
+        laterWords = rw (searches a) (zeroed-later 8192 work);
+        workWords = rw (searches a) (zeroed-long 8192 work (a .workRoom));
+      }
 
-    told-by : decisionTold (out .decision) ≡ reply .answer
-    told-by = ap (λ (r : Result). r .answer) (sym searches)
+  -- no count passes its allowance, so none can wrap
+  pub run-within-allowances : (reply .checks ≤ checks) × (reply .trials ≤ trials)
+  run-within-allowances =
+      ⊎-elim (λ n. rw (searches (accepts n)) (within-allowances checks trials _)) (λ g. rw (run-refuses-first (reply .answer) g) (omega arith)) one-or-none
 
-  -- ---- DEMAND 2: the first n bytes of a solved run are the first lawful plan, and the others are as they were
+  -- ---- DEMAND 2
+  -- the first n bytes of a solved run are the first lawful plan, and the others are as they were
   pub run-solves-first : reply .answer ≡ told 0 [] → First t (take (boats t) (reply .plan)) × (drop (boats t) (reply .plan) ≡ drop (boats t) plan)
   run-solves-first e =
-      let n = run-refused-only-then (omega (arith, ap (λ (x : Told). x .number) e)) in
-      let p = written (out n .decision) in
-      let f = decides-rightly (by n .way) t (fine n) checks trials (solved p) (solves (out n .decision) (told-by n ∙ e) p refl) in
-      let c = f .lawful .isPlan .complete in
-      let w : reply .plan ≡ p ++ drop (length p) plan = ap (λ (r : Result). r .plan) (searches n) in (
-        subst (First t) (sym (ap (take (boats t)) w ∙ take-at p (drop (length p) plan) (boats t) c)) f,
-        ap (drop (boats t)) w ∙ ap (λ (k : ℕ). drop k (p ++ drop (length p) plan)) (sym c) ∙ drop-append-seam p (drop (length p) plan) ∙ ap (λ (k : ℕ). drop k plan) c,
-      )
+      let z : reply .answer .number ≡ 0 = ap (λ (x : Told). x .number) e in
+      let a = accepts (run-unrefused-no-cause (omega arith)) in
+      let f = writes-first a z in
+      (rw (plan-is a, take-at _ _ (boats t) (f .lawful .isPlan .complete)) f, plan-later a)
 
   -- 'no plan' only where none exists
   pub run-no-plan-is-none : reply .answer ≡ told 1 [] → NoPlan t
   run-no-plan-is-none e =
-      let n = run-refused-only-then (omega (arith, ap (λ (x : Told). x .number) e)) in
-      decides-rightly (by n .way) t (fine n) checks trials noPlan (none-found (out n .decision) (told-by n ∙ e))
+      let z : reply .answer .number ≡ 1 = ap (λ (x : Told). x .number) e in
+      let a = accepts (run-unrefused-no-cause (omega arith)) in
+      means a (ap (λ (o : Outcome). o .decision) (outcome-is a z))
 
-  -- undecided only where the next event would pass an allowance: the counts are those of the events before it
-  module _ (way : Method) (known : wayOf method ≡ Way way) where
-    pub run-undecided-by-checks : reply .answer ≡ told 2 [] → OutOfChecks checks trials (searchBy way t) (reply .checks) (reply .trials)
+  -- the events of the method's own search
+  module _ (chosen : Method) (known : methodOf method ≡ Found chosen) where
+    abbrev own : Search
+    own = searchBy chosen t
+
+    abbrev asked : reply .answer .number < 100 → Accepted method t plan work checks trials
+    asked l = under (accepts (run-unrefused-no-cause l)) known
+
+    comes-of : NoneApplies all → {o : Outcome} → cut checks trials own ≡ o → reply ≡ finishedResult o plan work
+    comes-of n e = run-searches n chosen known ∙ ap (λ (x : Outcome). finishedResult x plan work) e
+
+    -- a run is decided where its checks and its trials fit the allowances, be it exactly
+    pub run-fit-decides : NoneApplies all → length (checksOf (own .events)) ≤ checks → length (trialsOf (own .events)) ≤ trials → reply .answer .number < 2
+    run-fit-decides n lc lt =
+        let f = fits-decides checks trials own lc lt in
+        rw (comes-of n f) (decided-small (own .ending) (λ e. means (asked (run-not-refused n)) (ap (λ (o : Outcome). o .decision) f ∙ ap decided e)))
+
+    -- and where it is decided its counts are the lengths of both lists, and these fit
+    pub run-decided-counts : reply .answer .number < 2 →
+        (reply .checks ≡ length (checksOf (own .events))) × (reply .trials ≡ length (trialsOf (own .events)))
+        × (length (checksOf (own .events)) ≤ checks) × (length (trialsOf (own .events)) ≤ trials)
+    run-decided-counts l =
+        let a = asked (omega arith) in
+        let d = decided-is a l in
+        let w = decided-fits checks trials own (d .ending) (d .is) in
+        rw (searches a) (w .3, w .4, w .0, w .1)
+
+    -- it is undecided by checks where a check comes when the checks are used up: the counts are those of the events before it
+    pub run-out-of-checks : NoneApplies all → (c k : ℕ) → OutOfChecks checks trials own c k → (reply .answer ≡ told 2 []) × (reply .checks ≡ c) × (reply .trials ≡ k)
+    run-out-of-checks n c k o = rw (comes-of n (undecided-checks checks trials own c k o)) (refl, refl, refl)
+
+    -- and nowhere else
+    pub run-undecided-by-checks : reply .answer ≡ told 2 [] → OutOfChecks checks trials own (reply .checks) (reply .trials)
     run-undecided-by-checks e =
-        let s = run-searches (run-refused-only-then (omega (arith, ap (λ (x : Told). x .number) e))) way known in
-        let d = out-of-checks (cut checks trials (searchBy way t) .decision) (ap (λ (r : Result). r .answer) (sym s) ∙ e) in
-        checks-undecided checks trials (searchBy way t) (reply .checks) (reply .trials) (rw s (ap (λ (x : Decision). outcome x (cut checks trials (searchBy way t) .checks) (cut checks trials (searchBy way t) .trials)) d))
+        let z : reply .answer .number ≡ 2 = ap (λ (x : Told). x .number) e in
+        checks-undecided checks trials own (reply .checks) (reply .trials) (outcome-is (asked (omega arith)) z)
 
-    pub run-undecided-by-trials : reply .answer ≡ told 3 [] → OutOfTrials checks trials (searchBy way t) (reply .checks) (reply .trials)
+    -- it is undecided by trials where a trial comes when the trials are used up: the counts are those of the events before it
+    pub run-out-of-trials : NoneApplies all → (c k : ℕ) → OutOfTrials checks trials own c k → (reply .answer ≡ told 3 []) × (reply .checks ≡ c) × (reply .trials ≡ k)
+    run-out-of-trials n c k o = rw (comes-of n (undecided-trials checks trials own c k o)) (refl, refl, refl)
+
+    -- and nowhere else
+    pub run-undecided-by-trials : reply .answer ≡ told 3 [] → OutOfTrials checks trials own (reply .checks) (reply .trials)
     run-undecided-by-trials e =
-        let s = run-searches (run-refused-only-then (omega (arith, ap (λ (x : Told). x .number) e))) way known in
-        let d = out-of-trials (cut checks trials (searchBy way t) .decision) (ap (λ (r : Result). r .answer) (sym s) ∙ e) in
-        trials-undecided checks trials (searchBy way t) (reply .checks) (reply .trials) (rw s (ap (λ (x : Decision). outcome x (cut checks trials (searchBy way t) .checks) (cut checks trials (searchBy way t) .trials)) d))
+        let z : reply .answer .number ≡ 3 = ap (λ (x : Told). x .number) e in
+        trials-undecided checks trials own (reply .checks) (reply .trials) (outcome-is (asked (omega arith)) z)
 
-  -- ---- DEMAND 3, its last sentence: raising an allowance never changes a decision, its counts or its memory
-  pub run-raising : (checks′ trials′ : ℕ) → checks ≤ checks′ → trials ≤ trials′ → reply .answer .number < 2 → runResult method t plan work checks′ trials′ ≡ reply
-  unfolding refusalOfRun
-  run-raising checks′ trials′ lc lt l =
-      let n = run-refused-only-then (omega arith) in
-      let d = decides (out n .decision) (rw (told-by n) l) in
-      result-finished method t plan work checks′ trials′ (by n .way) (by n .known) (none-fine all (told 0 []) n)
-      ∙ ap (λ (o : Outcome). finishedResult o plan work) (raising-changes-nothing (by n .way) t checks trials checks′ trials′ (d .ending) lc lt (d .is))
-      ∙ sym (searches n)
+-- ---- DEMAND 1, of two runs that differ in their words alone
+module _ (method : ℕ) (t : Tables) (plan work work′ : List ℕ) (checks trials : ℕ) where
+  abbrev one : Result
+  one = runResult method t plan work checks trials
 
--- ---- DEMAND 3: what the plain method decides the other decides too, with the same answer, the same bytes and the same words, and no more checks or trials
-module _ (plain other : ℕ) (t : Tables) (plan work : List ℕ) (checks trials : ℕ) where
-  abbrev slow : Result
-  slow = runResult plain t plan work checks trials
+  abbrev other : Result
+  other = runResult method t plan work′ checks trials
 
-  abbrev quick : Result
-  quick = runResult other t plan work checks trials
+  -- what the words held before has no effect: both may be enough, or both too few
+  pub run-ignores-words : ltb (length work′) 8192 ≡ ltb (length work) 8192 →
+      (other .answer ≡ one .answer) × (other .checks ≡ one .checks) × (other .trials ≡ one .trials) × (other .plan ≡ one .plan)
+      × (one .answer .number < 100 → (k : ℕ) → k < 8192 → word (other .work) k ≡ word (one .work) k)
+  run-ignores-words e =
+      let same = same-but-words method t plan work work′ checks trials e in
+      let answer = ap (λ (r : Result). r .answer) same in (
+        answer,
+        ap (λ (r : Result). r .checks) same,
+        ap (λ (r : Result). r .trials) same,
+        ap (λ (r : Result). r .plan) same,
+        λ l k lk. run-leaves method t plan work′ checks trials (rw answer l) .zeroWords k lk ∙ sym (run-leaves method t plan work checks trials l .zeroWords k lk),
+      )
 
-  pub run-saves-only : {way jumped : Method} → Saves way jumped → wayOf plain ≡ Way jumped → wayOf other ≡ Way way → slow .answer .number < 2 →
-      (quick .answer ≡ slow .answer) × (quick .plan ≡ slow .plan) × (quick .work ≡ slow .work) × (quick .checks ≤ slow .checks) × (quick .trials ≤ slow .trials)
-  run-saves-only {way} {jumped} s kp ko l =
-      let n = run-refused-only-then plain t plan work checks trials (omega arith) in
-      let m : NoneApplies (runTests other t (length plan) (length work)) = nor (λ k lk. known-passes other way ko) (none-later n) in
-      let a = run-searches plain t plan work checks trials n jumped kp in
-      let b = run-searches other t plan work checks trials m way ko in
-      let d = decides (cut checks trials (searchBy jumped t) .decision) (rw (ap (λ (r : Result). r .answer) (sym a)) l) in
+-- ---- DEMAND 3, of two runs on the same tables. The first is decided in its memory, and the second's own is long enough
+module _ (t : Tables) (plan work plan′ work′ : List ℕ) (planRoom : boats t ≤ length plan′) (workRoom : 8192 ≤ length work′) (checks trials : ℕ) where
+  -- two searches that come to one decision
+  alike : {method again checks′ trials′ : ℕ} (a : Accepted method t plan work checks trials) (b : Accepted again t plan′ work′ checks′ trials′) → out b .decision ≡ out a .decision →
+      Alike t plan work (runResult method t plan work checks trials) plan′ work′ (runResult again t plan′ work′ checks′ trials′)
+  alike {method} {again} {checks′} {trials′} a b e =
+      let same = ap (λ (r : Result). r .answer) (searches b) ∙ ap decisionTold e ∙ ap (λ (r : Result). r .answer) (sym (searches a)) in
+      record {
+        sameAnswer = same;
+        sameBytes = λ s. first-unique t _ _ (run-solves-first again t plan′ work′ checks′ trials′ (same ∙ s) .0) (run-solves-first method t plan work checks trials s .0);
+        leaves = run-leaves method t plan work checks trials (omega (arith, four-small _ (answers a)));
+        leaves′ = run-leaves again t plan′ work′ checks′ trials′ (omega (arith, four-small _ (answers b)));
+      }
+
+  -- what the plain method decides the other decides too, with the same answer and bytes, and no more checks or trials
+  pub run-saves-only : {quicker slower : Method} → Saves quicker slower → (plain other : ℕ) → methodOf plain ≡ Found slower → methodOf other ≡ Found quicker →
+      let slow = runResult plain t plan work checks trials in
+      let quick = runResult other t plan′ work′ checks trials in
+      slow .answer .number < 2 → Alike t plan work slow plan′ work′ quick × (quick .checks ≤ slow .checks) × (quick .trials ≤ slow .trials)
+  run-saves-only {quicker} {slower} s plain other kp ko l =
+      let a = asked plain t plan work checks trials slower kp (omega arith) in
+      let b : Accepted other t plan′ work′ checks trials = elsewhere a ko planRoom workRoom in
+      let d = decided-is a l in
       let v = saves-only s t checks trials (d .ending) (d .is) in
-      let same = v .0 ∙ sym (d .is) in
-      rw (a, b) (
-        ap decisionTold same,
-        ap (λ (x : Decision). written x ++ drop (length (written x)) plan) same,
-        refl,
-        v .1,
-        v .2,
+      (alike a b (v .0 ∙ sym (d .is)), rw (searches a, searches b) (v .1), rw (searches a, searches b) (v .2))
+
+  -- raising an allowance never changes a decision, its bytes or its counts
+  pub run-raising : (method checks′ trials′ : ℕ) → checks ≤ checks′ → trials ≤ trials′ →
+      let low = runResult method t plan work checks trials in
+      let high = runResult method t plan′ work′ checks′ trials′ in
+      low .answer .number < 2 → Alike t plan work low plan′ work′ high × (high .checks ≡ low .checks) × (high .trials ≡ low .trials)
+  run-raising method checks′ trials′ lc lt l =
+      let a = accepts method t plan work checks trials (run-unrefused-no-cause method t plan work checks trials (omega arith)) in
+      let b : Accepted method t plan′ work′ checks′ trials′ = elsewhere a (a .known) planRoom workRoom in
+      let d = decided-is a l in
+      let same = raising-changes-nothing (a .chosen) t checks trials checks′ trials′ (d .ending) lc lt (d .is) in (
+        alike a b (ap (λ (o : Outcome). o .decision) same),
+        rw (searches a, searches b) (ap (λ (o : Outcome). o .checks) same),
+        rw (searches a, searches b) (ap (λ (o : Outcome). o .trials) same),
       )

@@ -1,6 +1,3 @@
 pub mod Runs
-pub mod Memory
-pub mod Moves
-pub mod Jumps
-pub mod Prepared
-pub mod Searches
+pub mod Lent
+pub mod Promises

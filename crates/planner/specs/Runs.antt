@@ -1,16 +1,16 @@
 -- THE PROMISE OF `run`: for every input the whole reply, every byte of the plan memory and every working word.
--- (Document 01, 'Numbers given back' and 'Counting'.) Assumes nothing.
+-- (Document 01, 'Numbers given back' and 'Counting'.)
 use mathlib.Core.Bool.{Bool, true, false, _||_}
 use mathlib.Core.List.{List, [], _∷_, _++_}
 use Prim.Native.Nat.{ℕ}
 use lib.Dec.{ltb, eqb}
 use lib.ListN.{length, drop}
 use Rattle.problem.specs.Tables.{Tables, boats}
-use Rattle.problem.specs.Ways.{wayOf}
+use Rattle.problem.specs.Methods.{methodOf}
 use Rattle.problem.specs.Replies.{Told, told, refused, answerTold}
 use Rattle.problem.specs.declared.Allowance.the-variants.{Checks, Trials}
-use Rattle.problem.specs.declared.Known.{Known}
-use Rattle.problem.specs.declared.Known.the-variants.{Way, Unknown}
+use Rattle.problem.specs.declared.MethodFound.{MethodFound}
+use Rattle.problem.specs.declared.MethodFound.the-variants.{Found, NotFound}
 use Rattle.problem.specs.declared.Reply.{Reply}
 use Rattle.tables.specs.Tests.{Test, once, firstOf}
 use Rattle.tables.specs.Examination.{tests}
@@ -23,10 +23,12 @@ use Rattle.words.specs.Layout.{zeroed}
 abbrev pub notOneToFive : ℕ → Bool
 notOneToFive method = eqb method 0 || ltb 5 method
 
+-- the lent memory
+abbrev pub lentTests : Tables → (planBytes workWords : ℕ) → List Test
+lentTests t planBytes workWords = once 8 (ltb planBytes (boats t)) ∷ once 9 (ltb workWords 8192) ∷ []
+
 abbrev pub runTests : (method : ℕ) → Tables → (planBytes workWords : ℕ) → List Test
-runTests method t planBytes workWords =
-    once 1 (notOneToFive method)
-    ∷ (tests t ++ (once 8 (ltb planBytes (boats t)) ∷ once 9 (ltb workWords 8192) ∷ []))
+runTests method t planBytes workWords = once 1 (notOneToFive method) ∷ (tests t ++ lentTests t planBytes workWords)
 
 -- the refusal; number 0 where nothing is refused
 unfoldable pub refusalOfRun : (method : ℕ) → Tables → (planBytes workWords : ℕ) → Told
@@ -71,9 +73,9 @@ finishedResult o plan work =
     }
 
 -- the method's search, cut by the allowances. (No number but the five is a method: number 1 has refused it)
-abbrev pub finishedBy : Known → Tables → (plan work : List ℕ) → (checks trials : ℕ) → Result
-finishedBy (Way way) t plan work checks trials = finishedResult (cut checks trials (searchBy way t)) plan work
-finishedBy Unknown t plan work checks trials = refusedResult (refused 1 0) plan work
+abbrev pub finishedBy : MethodFound → Tables → (plan work : List ℕ) → (checks trials : ℕ) → Result
+finishedBy (Found chosen) t plan work checks trials = finishedResult (cut checks trials (searchBy chosen t)) plan work
+finishedBy NotFound t plan work checks trials = refusedResult (refused 1 0) plan work
 
 abbrev pub unlessRefused : (fine : Bool) → (finished refusal : Result) → Result
 unlessRefused true finished refusal = finished
@@ -82,7 +84,7 @@ unlessRefused false finished refusal = refusal
 unfoldable pub runResult : (method : ℕ) → Tables → (plan work : List ℕ) → (checks trials : ℕ) → Result
 runResult method t plan work checks trials =
     unlessRefused (eqb (refusalOfRun method t (length plan) (length work) .number) 0)
-    (finishedBy (wayOf method) t plan work checks trials)
+    (finishedBy (methodOf method) t plan work checks trials)
     (refusedResult (refusalOfRun method t (length plan) (length work)) plan work)
 
 -- a reply and the memory that it leaves, on paper

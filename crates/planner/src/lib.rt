@@ -3,19 +3,17 @@ ghost use mathlib.Core.Path.{_≡_};
 ghost use mathlib.Core.List.{_++_};
 ghost use Prim.Native.Nat.{ℕ, _≤_, _<_};
 ghost use lib.ListN.{length, take, drop};
+ghost use Rattle.problem.specs.Tables.{Tables, tables};
 ghost use Rattle.problem.specs.declared.Answer.the-variants.{Solved};
-ghost use Rattle.words.specs.Layout.{tables, word};
+ghost use Rattle.tables.specs.Examination.{Fine};
+ghost use Rattle.words.specs.Layout.{word};
+ghost use Rattle.walk.specs.Walks.{decisionOf};
 ghost use Rattle.planner.specs.Runs.{written, runResult, resultOf};
-ghost use Rattle.planner.specs.Searches.{decisionOf, refusedReply, refusedBy};
-
-mod label;
-mod labelled;
-mod search;
-mod unlabel;
-
+ghost use Rattle.planner.specs.Lent.{refusedReply, lentResult};
 use events::Counts;
 use problem::Answer;
-use problem::Known;
+use problem::Method;
+use problem::MethodFound;
 use problem::Problem;
 use problem::Refusal;
 use problem::Reply;
@@ -28,16 +26,6 @@ fn refused(why: Refusal) -> Reply
         answer: Answer::Refused(why),
         checks: 0,
         trials: 0,
-    }
-}
-
-// What the examination found, as a reply. (Only a refusal comes here.)
-fn refused_by(found: Examined) -> Reply
-    ensures { λ r. ⌜ r ≡ refusedBy found ⌝ }
-{
-    match found {
-        Examined::Refused(why) => refused(why),
-        Examined::Fine(_) => refused(Refusal::Method),
     }
 }
 
@@ -68,6 +56,37 @@ fn write_plan(answer: Answer, n: usize, work: &[u64], plan: &mut [u8])
     }
 }
 
+// The tables are fine. The lent memory is tested; then comes the search, and the words are cleared after it.
+fn run_fine(
+    method: Method,
+    sizes: &[u8],
+    pairs: &[u8],
+    rows: &[u64],
+    plan: &mut [u8],
+    work: &mut [u64],
+    checks: u64,
+    trials: u64,
+) -> Reply
+    ghost { Tables }
+    requires { λ t. ⌜ tables (now sizes) (now pairs) (now rows) ≡ t ⌝ }
+    requires { λ t. ⌜ Fine t ⌝ }
+    ensures { λ t r. ⌜ resultOf r (now (plan .exit)) (now (work .exit)) ≡ lentResult method t (now (plan .entry)) (now (work .entry)) checks trials ⌝ }
+{
+    let n = sizes.len();
+    if plan.len() < n {
+        return refused(Refusal::PlanMemory);
+    }
+    if Problem::short_work(work.len()) {
+        return refused(Refusal::WorkMemory);
+    }
+    let moves = moves::moves_of(method);
+    let found = walk::search(moves, sizes, pairs, rows, Counts::new(checks, trials), work);
+    let answer = found.answer;
+    write_plan(answer, n, work, plan);
+    words::clear(work);
+    found
+}
+
 // Runs a method by its number. Only a run that is not refused changes what is lent: a solved one writes the plan, and each leaves the first 8,192 words 0.
 pub fn run(
     method: u64,
@@ -81,25 +100,14 @@ pub fn run(
 ) -> Reply
     ensures { λ r. ⌜ resultOf r (now (plan .exit)) (now (work .exit)) ≡ runResult method (tables (now (sizes .entry)) (now (pairs .entry)) (now (rows .entry))) (now (plan .entry)) (now (work .entry)) checks trials ⌝ }
 {
-    let known = Problem::way_of(method);
-    let Known::Way(way) = known else {
+    let named = Problem::method_of(method);
+    let MethodFound::Found(chosen) = named else {
         return refused(Refusal::Method);
     };
+    // An else binds nothing, so it is the refusal that is bound here, and returned below with counts 0.
     let examined = tables::examine(sizes, pairs, rows);
-    let Examined::Fine(problem) = examined else {
-        return refused_by(examined);
+    let Examined::Refused(why) = examined else {
+        return run_fine(chosen, sizes, pairs, rows, plan, work, checks, trials);
     };
-    let n = problem.boats;
-    if plan.len() < n {
-        return refused(Refusal::PlanMemory);
-    }
-    if Problem::short_work(work.len()) {
-        return refused(Refusal::WorkMemory);
-    }
-    words::clear(work);
-    let found = search::search(way, sizes, pairs, rows, Counts::new(checks, trials), work);
-    let answer = found.answer;
-    write_plan(answer, n, work, plan);
-    words::clear(work);
-    found
+    refused(why)
 }

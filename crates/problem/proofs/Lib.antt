@@ -3,4 +3,4 @@ pub mod Starts
 pub mod Places
 pub mod Plans
 pub mod Replies
-pub mod Ways
+pub mod Methods

@@ -1,4 +1,4 @@
--- The laws of the lowest place where a test passes. Assumes nothing.
+-- The laws of the lowest place where a test passes.
 use mathlib.Core.Path.{_≡_, refl}
 use mathlib.Core.Logic.{_⊎_, inl, inr}
 use mathlib.Core.Bool.{Bool, true, false}

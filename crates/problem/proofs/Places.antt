@@ -1,4 +1,4 @@
--- The place of a pair among the listed ones. Assumes nothing.
+-- The place of a pair among the listed ones.
 use mathlib.Core.Path.{_≡_, refl, sym, _∙_}
 use mathlib.Core.Logic.{⊎-elim}
 use mathlib.Core.Bool.{Bool, true, false, _&&_}
@@ -12,7 +12,7 @@ use Rattle.problem.specs.Tables.{Tables, boats, listed, lower, higher, i
 use Rattle.problem.specs.Rising.{Rising}
 use Rattle.problem.specs.Sane.{Sane}
 use Rattle.problem.specs.Plans.{slot, keeps}
-use Rattle.problem.proofs.Lowest.{lowest-here, lowest-le, lowest-passes, not-both}
+use Rattle.problem.proofs.Lowest.{lowest-here, lowest-passes, not-both}
 
 pub both-true : (a b : Bool) → (a && b) ≡ true → (a ≡ true) × (b ≡ true)
 both-true true b e = (refl, e)
@@ -36,10 +36,6 @@ pub pair-elsewhere : (pairs : List ℕ) (h i k : ℕ) → (lower pairs k ≡ h �
 pair-elsewhere pairs h i k n = eq-false-of-not-eq-true (λ e. let q = both-true _ _ e in n (eqb-true _ _ (q .0)) (eqb-true _ _ (q .1)))
 
 module _ (pairs : List ℕ) where
-  pub place-le : (h i : ℕ) → place pairs h i ≤ listed pairs
-  unfolding place
-  place-le h i = lowest-le (listed pairs) (isPair pairs h i)
-
   -- what stands at the place of a listed pair is the pair
   pub place-pair : (h i : ℕ) → place pairs h i < listed pairs → (lower pairs (place pairs h i) ≡ h) × (higher pairs (place pairs h i) ≡ i)
   unfolding place

@@ -1,4 +1,4 @@
--- There is at most one first plan. Assumes nothing.
+-- There is at most one first plan.
 use mathlib.Core.Path.{_≡_, sym}
 use mathlib.Core.Logic.{_⊎_, inl, inr}
 use mathlib.Core.List.{List}

@@ -1,4 +1,4 @@
--- Two replies that say the same on paper are the same: each can be read back. Assumes nothing.
+-- Two replies that say the same on paper are the same: each can be read back.
 use mathlib.Core.Path.{_≡_, refl, sym, ap, _∙_}
 use mathlib.Core.List.{List, [], _∷_}
 use Prim.Native.Nat.{ℕ, _-_, _≤_}

@@ -1,4 +1,4 @@
--- Where the rows of a pair begin. Assumes nothing.
+-- Where the rows of a pair begin.
 use mathlib.Core.Path.{_≡_, refl}
 use mathlib.Core.Logic.{_⊎_, inl, inr}
 use mathlib.Core.List.{List}

@@ -3,5 +3,5 @@ pub mod Tables
 pub mod Rising
 pub mod Sane
 pub mod Plans
-pub mod Ways
+pub mod Methods
 pub mod Replies

@@ -1,4 +1,4 @@
--- The lowest place where a test passes, and a sum over places. Assumes nothing.
+-- The lowest place where a test passes, and a sum over places.
 use mathlib.Core.Bool.{Bool, true, false}
 use Prim.Native.Nat.{ℕ, zero, suc, _+_}
 

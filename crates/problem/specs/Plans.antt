@@ -1,4 +1,4 @@
--- Plans: lawful, first, none. (Document 01, 'The harbour's problem'.) Nothing here runs a search. Assumes nothing.
+-- Plans: lawful, first, none. (Document 01, 'The harbour's problem'.) Nothing here runs a search.
 use mathlib.Core.Path.{_≡_}
 use mathlib.Core.Logic.{_⊎_}
 use mathlib.Core.Bool.{Bool}

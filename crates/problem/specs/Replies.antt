@@ -1,4 +1,4 @@
--- What each reply says on paper: the number and the values that documents 01 and 02 give it. (Document 01, 'Numbers given back'.) Assumes nothing.
+-- What each reply says on paper: the number and the values that documents 01 and 02 give it. (Document 01, 'Numbers given back'.)
 use mathlib.Core.List.{List, [], _∷_}
 use Prim.Native.Nat.{ℕ, _+_}
 use Rattle.problem.specs.declared.Refusal.{Refusal}

@@ -1,4 +1,4 @@
--- The listed pairs rise strictly: by lower boat, then by higher. Assumes nothing.
+-- The listed pairs rise strictly: by lower boat, then by higher.
 use mathlib.Core.Path.{_≡_}
 use mathlib.Core.Logic.{_⊎_}
 use mathlib.Core.List.{List}

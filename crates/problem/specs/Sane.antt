@@ -1,4 +1,4 @@
--- Tables that keep every rule of document 01's 'The harbour's problem'. Assumes nothing.
+-- Tables that keep every rule of document 01's 'The harbour's problem'.
 use mathlib.Core.Path.{_≡_}
 use Prim.Native.Nat.{ℕ, _*_, _^_, _≤_, _<_}
 use lib.ListN.{length}

@@ -1,4 +1,4 @@
--- The harbour's tables: three lists, and what they say. (Document 01, 'The harbour's problem'.) Assumes nothing.
+-- The harbour's tables: three lists, and what they say. (Document 01, 'The harbour's problem'.)
 use mathlib.Core.Bool.{Bool, not, _&&_, _||_}
 use mathlib.Core.List.{List}
 use Prim.Native.Nat.{ℕ, _+_, _*_, _/_, _%_, _^_}
@@ -11,6 +11,9 @@ pub record Tables : Type 0 where
   pub sizes : List ℕ
   pub pairs : List ℕ
   pub rows : List ℕ
+
+abbrev pub tables : (sizes pairs rows : List ℕ) → Tables
+tables sizes pairs rows = record { sizes = sizes; pairs = pairs; rows = rows }
 
 -- ---- boats 0 to n - 1, and boat i's slots 0 to size - 1
 abbrev pub boats : Tables → ℕ

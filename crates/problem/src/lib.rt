@@ -3,7 +3,7 @@ ghost use mathlib.Core.Path.{_≡_};
 ghost use mathlib.Core.Bool.{_||_};
 ghost use Prim.Native.Nat.{_%_};
 ghost use lib.Dec.{ltb, eqb};
-ghost use Rattle.problem.specs.Ways.{wayOf};
+ghost use Rattle.problem.specs.Methods.{methodOf};
 ghost use Rattle.problem.specs.Replies.{refusalNumber, refusalPlace};
 
 mod looks;
@@ -80,30 +80,30 @@ impl Problem {
     }
 
     // The method that has a number: no number but the five has one.
-    pub fn way_of(method: u64) -> Known
-        ensures { λ r. ⌜ r ≡ wayOf method ⌝ }
+    pub fn method_of(method: u64) -> MethodFound
+        ensures { λ r. ⌜ r ≡ methodOf method ⌝ }
     {
         if method == Self::BT {
-            return Known::Way(Way::Bt);
+            return MethodFound::Found(Method::Bt);
         }
         if method == Self::CBJ {
-            return Known::Way(Way::Cbj);
+            return MethodFound::Found(Method::Cbj);
         }
         if method == Self::BM {
-            return Known::Way(Way::Bm);
+            return MethodFound::Found(Method::Bm);
         }
         if method == Self::FC {
-            return Known::Way(Way::Fc);
+            return MethodFound::Found(Method::Fc);
         }
         if method == Self::FC_CBJ {
-            return Known::Way(Way::FcCbj);
+            return MethodFound::Found(Method::FcCbj);
         }
-        Known::Unknown
+        MethodFound::NotFound
     }
 }
 
 // The five methods.
-pub enum Way {
+pub enum Method {
     Bt,
     Cbj,
     Bm,
@@ -111,9 +111,10 @@ pub enum Way {
     FcCbj,
 }
 
-pub enum Known {
-    Way(Way),
-    Unknown,
+// The method that a number names, if it names one.
+pub enum MethodFound {
+    Found(Method),
+    NotFound,
 }
 
 // Why an operation refuses its input, with the place where the paper gives one other than 0.

@@ -1,4 +1,4 @@
--- Tests joined by `||` and turned by `not`. Assumes nothing.
+-- Tests joined by `||` and turned by `not`.
 use mathlib.Core.Path.{_≡_, refl, ap}
 use mathlib.Core.Bool.{Bool, true, false, not, _||_}
 use Rattle.problem.proofs.Lowest.{not-both}

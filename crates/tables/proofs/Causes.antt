@@ -1,4 +1,4 @@
--- The causes of numbers 2 to 5, from the facts that the code tests, and back. Assumes nothing.
+-- The causes of numbers 2 to 5, from the facts that the code tests, and back.
 use mathlib.Core.Path.{_≡_, refl, ap, _∙_}
 use mathlib.Core.Logic.{inl, inr, ⊎-elim}
 use mathlib.Core.Bool.{Bool, true, false, not, _&&_, _||_}

@@ -1,4 +1,4 @@
--- The tests in turn: one that applies says its refusal, and one that does not hands on to the next. Assumes nothing.
+-- The tests in turn: one that applies says its refusal, and one that does not hands on to the next.
 use mathlib.Core.Path.{_≡_, sym, ap, _∙_}
 use mathlib.Core.Bool.{Bool, true, false}
 use mathlib.Core.List.{List, [], _∷_}

@@ -1,4 +1,4 @@
--- The examination says fine of exactly the tables that keep every rule. Assumes nothing.
+-- The examination says fine of exactly the tables that keep every rule.
 use mathlib.Core.Path.{_≡_, _∙_}
 use mathlib.Core.List.{[], _∷_}
 use native.Mathlib.Omega.{arith}

@@ -1,4 +1,4 @@
--- The questions about a given plan, as the code goes through them. Assumes nothing.
+-- The questions about a given plan, as the code goes through them.
 use mathlib.Core.Path.{_≡_, refl, sym, ap, _∙_}
 use mathlib.Core.Bool.{Bool, true, false}
 use mathlib.Core.List.{List, [], _∷_, _++_}

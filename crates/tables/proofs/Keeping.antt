@@ -1,4 +1,4 @@
--- What a plan reads of the rows, and that it is within them. Assumes nothing.
+-- What a plan reads of the rows, and that it is within them.
 use mathlib.Core.Path.{_≡_, refl, ap, ap₂, _∙_}
 use mathlib.Core.List.{List}
 use Prim.Native.Nat.{ℕ, _+_, _≤_, _<_}

@@ -1,4 +1,4 @@
--- What the ordered tests mean, and what the questions about a given plan answer. Assumes nothing.
+-- What the ordered tests mean, and what the questions about a given plan answer.
 use mathlib.Core.Path.{_≡_, refl, sym, ap, _∙_}
 use mathlib.Core.Logic.{_⊎_, inl, inr, ⊎-elim}
 use mathlib.Core.Bool.{Bool, true, false, not}

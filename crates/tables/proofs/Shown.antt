@@ -1,4 +1,4 @@
--- The part of the rows that is shown for two boats, and that it is within the rows. Assumes nothing.
+-- The part of the rows that is shown for two boats, and that it is within the rows.
 use mathlib.Core.Path.{_≡_, refl, sym, ap, ap₂, _∙_}
 use mathlib.Core.Bool.{Bool, true, false, _&&_}
 use mathlib.Core.List.{[], _∷_}

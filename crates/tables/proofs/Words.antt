@@ -1,4 +1,4 @@
--- A word is a row of the pair whose rows hold it, and its cause is read off that pair. Assumes nothing.
+-- A word is a row of the pair whose rows hold it, and its cause is read off that pair.
 use mathlib.Core.Path.{_≡_, refl, sym, ap, _∙_}
 use mathlib.Core.Bool.{Bool, true, false}
 use mathlib.Core.List.{List}

@@ -1,7 +1,8 @@
--- Programs that no edit of this code's shape gives, each with tables on which the promise refuses its reply. Assumes nothing.
+-- Wrong programs of any shape, each with tables on which the promise refuses its reply.
 use mathlib.Core.Path.{_≡_, refl, ap}
 use mathlib.Core.List.{[], _∷_}
-use Prim.Native.Nat.{ℕ}
+use Prim.Native.Nat.{ℕ, _≤_}
+use native.Mathlib.Omega.{arith}
 use borrow.Author.Tests.{eqb-false}
 use lib.ListN.{getD}
 use Rattle.problem.specs.Lowest.{lowestFrom, lowest, sum}
@@ -29,10 +30,10 @@ twoAtFault = record { sizes = 0 ∷ 1 ∷ 0 ∷ []; pairs = []; rows = [] }
 abbrev caseD : Tables
 caseD = record { sizes = 2 ∷ 2 ∷ 2 ∷ []; pairs = 0 ∷ 1 ∷ 0 ∷ 2 ∷ 1 ∷ 2 ∷ []; rows = 2 ∷ 1 ∷ 2 ∷ 1 ∷ 2 ∷ 1 ∷ [] }
 
--- one that always refuses, here by number 2
-pub always-refused : refused 2 0 ≡ examination nothing → ⊥
+-- one that always refuses
+pub always-refused : (w : Told) → 100 ≤ w .number → w ≡ examination nothing → ⊥
 unfolding examination firstOf lowest lowestFrom start sum
-always-refused e = eqb-false 102 0 refl (ap number e)
+always-refused w l e = omega (arith, l, ap number e)
 
 -- one that refuses nothing
 pub never-refused : told 0 (3 ∷ 0 ∷ 0 ∷ []) ≡ examination twoAtFault → ⊥

@@ -1,4 +1,4 @@
--- What it is for the tests of a list to apply, or not, without the lowest place. Assumes nothing.
+-- What it is for the tests of a list to apply, or not, without the lowest place.
 use mathlib.Core.Path.{_≡_}
 use mathlib.Core.Bool.{true, false}
 use mathlib.Core.List.{List, [], _∷_}

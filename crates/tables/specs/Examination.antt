@@ -1,4 +1,4 @@
--- The examination of the tables: numbers 2 to 7, each with its cause. (Document 01, 'Numbers given back'.) Assumes nothing.
+-- The examination of the tables: numbers 2 to 7, each with its cause. (Document 01, 'Numbers given back'.)
 use mathlib.Core.Path.{_≡_}
 use mathlib.Core.Bool.{Bool, false, not, _&&_, _||_}
 use mathlib.Core.List.{List, [], _∷_}

@@ -1,4 +1,4 @@
--- What the tests before number 7 leave: the rows can be walked pair by pair. Assumes nothing.
+-- What the tests before number 7 leave: the rows can be walked pair by pair.
 use mathlib.Core.Path.{_≡_}
 use Prim.Native.Nat.{ℕ, _≤_, _<_}
 use lib.ListN.{length}

@@ -1,4 +1,4 @@
--- The questions about a given plan and about a pair's rows. (Document 01, 'Numbers given back'.) Assumes nothing.
+-- The questions about a given plan and about a pair's rows. (Document 01, 'Numbers given back'.)
 use mathlib.Core.Bool.{Bool, true, false, not, _&&_}
 use mathlib.Core.List.{List, [], _∷_, _++_}
 use Prim.Native.Nat.{ℕ, suc, _-_}

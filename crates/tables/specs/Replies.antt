@@ -1,7 +1,5 @@
--- What each reply of this crate says on paper. Assumes nothing.
-use mathlib.Core.List.{List, [], _∷_}
-use Prim.Native.Nat.{ℕ}
-use Rattle.problem.specs.Tables.{Tables}
+-- What each reply of this crate says on paper.
+use mathlib.Core.List.{[], _∷_}
 use Rattle.problem.specs.Replies.{Told, told, refusalTold}
 use Rattle.tables.specs.declared.Examined.{Examined}
 use Rattle.tables.specs.declared.Examined.the-variants.{Fine, Refused}
@@ -10,10 +8,7 @@ use Rattle.tables.specs.declared.Judged.the-variants.{Lawful, Unlawful, 
 use Rattle.tables.specs.declared.Broken.{Broken}
 use Rattle.tables.specs.declared.Broken.the-variants.{Nowhere, Pair, Refused as BrokenRefused}
 
--- the three lent lists
-abbrev pub tables : (sizes pairs rows : List ℕ) → Tables
-tables sizes pairs rows = record { sizes = sizes; pairs = pairs; rows = rows }
-
+-- ---- the examination, a plan question, the broken pair
 abbrev pub examinedTold : Examined → Told
 examinedTold (Fine p) = told 0 (p .boats ∷ p .pairs ∷ p .words ∷ [])
 examinedTold (Refused why) = refusalTold why

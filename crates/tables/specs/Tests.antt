@@ -1,4 +1,4 @@
--- An ordered list of tests: the first that applies, at its lowest place, says the refusal. Assumes nothing.
+-- An ordered list of tests: the first that applies, at its lowest place, says the refusal.
 use mathlib.Core.Bool.{Bool, true, false}
 use mathlib.Core.List.{List, [], _∷_}
 use Prim.Native.Nat.{ℕ}

@@ -1,13 +1,13 @@
 // Numbers 10 and 11, and the lowest broken pair: a given plan, after the examination.
 ghost use mathlib.Core.Path.{_≡_};
-ghost use mathlib.Core.Bool.{not};
 ghost use Prim.Native.Nat.{_<_};
 ghost use lib.ListN.{length};
 ghost use Rattle.problem.specs.Lowest.{lowest};
+ghost use Rattle.problem.specs.Tables.{Tables, tables};
 ghost use Rattle.problem.specs.Sane.{Sane};
 ghost use Rattle.problem.specs.Plans.{Plan};
 ghost use Rattle.tables.specs.Questions.{badSlot, broken, brokenQuestion};
-ghost use Rattle.tables.specs.Replies.{tables, brokenTold};
+ghost use Rattle.tables.specs.Replies.{brokenTold};
 use crate::Broken;
 use problem::Refusal;
 
@@ -28,9 +28,11 @@ fn first_bad_slot(sizes: &[u8], plan: &[u8]) -> usize
 
 // The lowest listed pair that a plan breaks; the number of pairs where it breaks none.
 fn lowest_broken(sizes: &[u8], pairs: &[u8], rows: &[u64], plan: &[u8]) -> usize
-    requires { ⌜ Sane (tables (now sizes) (now pairs) (now rows)) ⌝ }
-    requires { ⌜ Plan (tables (now sizes) (now pairs) (now rows)) (now plan) ⌝ }
-    ensures { λ r. ⌜ r ≡ broken (tables (now (sizes .entry)) (now (pairs .entry)) (now (rows .entry))) (now (plan .entry)) ⌝ }
+    ghost { Tables }
+    requires { λ t. ⌜ tables (now sizes) (now pairs) (now rows) ≡ t ⌝ }
+    requires { λ t. ⌜ Sane t ⌝ }
+    requires { λ t. ⌜ Plan t (now plan) ⌝ }
+    ensures { λ t r. ⌜ r ≡ broken t (now (plan .entry)) ⌝ }
 {
     let count = pairs.len() / 2;
     let mut start: usize = 0;
@@ -48,9 +50,11 @@ fn lowest_broken(sizes: &[u8], pairs: &[u8], rows: &[u64], plan: &[u8]) -> usize
 }
 
 // What the examination leaves of the broken-pair question.
-pub fn judge(sizes: &[u8], pairs: &[u8], rows: &[u64], plan: &[u8]) -> Broken
-    requires { ⌜ Sane (tables (now sizes) (now pairs) (now rows)) ⌝ }
-    ensures { λ r. ⌜ brokenTold r ≡ brokenQuestion (tables (now (sizes .entry)) (now (pairs .entry)) (now (rows .entry))) (now (plan .entry)) ⌝ }
+pub fn broken_pair(sizes: &[u8], pairs: &[u8], rows: &[u64], plan: &[u8]) -> Broken
+    ghost { Tables }
+    requires { λ t. ⌜ tables (now sizes) (now pairs) (now rows) ≡ t ⌝ }
+    requires { λ t. ⌜ Sane t ⌝ }
+    ensures { λ t r. ⌜ brokenTold r ≡ brokenQuestion t (now (plan .entry)) ⌝ }
 {
     if plan.len() != sizes.len() {
         return Broken::Refused(Refusal::GivenLength);

@@ -1,8 +1,9 @@
 // The questions about tables. Each takes any slices whatever and asks nothing of its caller.
 ghost use mathlib.Core.Path.{_≡_};
+ghost use Rattle.problem.specs.Tables.{tables};
 ghost use Rattle.tables.specs.Examination.{examination};
 ghost use Rattle.tables.specs.Questions.{lawfulQuestion, brokenQuestion, rowsShown, shownRows};
-ghost use Rattle.tables.specs.Replies.{tables, examinedTold, judgedTold, brokenTold};
+ghost use Rattle.tables.specs.Replies.{examinedTold, judgedTold, brokenTold};
 
 mod given;
 mod pairs;
@@ -81,7 +82,7 @@ pub fn first_broken(sizes: &[u8], pairs: &[u8], rows: &[u64], plan: &[u8]) -> Br
 {
     match examine(sizes, pairs, rows) {
         Examined::Refused(why) => Broken::Refused(why),
-        Examined::Fine(_) => given::judge(sizes, pairs, rows, plan),
+        Examined::Fine(_) => given::broken_pair(sizes, pairs, rows, plan),
     }
 }
 

@@ -4,8 +4,8 @@ ghost use Prim.Native.Nat.{_-_, _^_, _<_, _≤_};
 ghost use lib.Dec.{leb};
 ghost use lib.ListN.{length, getD};
 ghost use Rattle.problem.specs.Lowest.{lowest, lowestFrom};
+ghost use Rattle.problem.specs.Tables.{Tables, tables};
 ghost use Rattle.tables.specs.Examination.{badWord};
-ghost use Rattle.tables.specs.Replies.{tables};
 ghost use Rattle.tables.specs.Framed.{Framed};
 use problem::Problem;
 
@@ -39,8 +39,10 @@ fn first_wide_word(rows: &[u64], from: usize, to: usize, size: usize) -> usize
 
 // The lowest word with a bit at or above its higher boat's size; the number of words where there is none.
 pub fn first_bad_word(sizes: &[u8], pairs: &[u8], rows: &[u64]) -> usize
-    requires { ⌜ Framed (tables (now sizes) (now pairs) (now rows)) ⌝ }
-    ensures { λ r. ⌜ r ≡ lowest (length (now (rows .entry))) (badWord (tables (now (sizes .entry)) (now (pairs .entry)) (now (rows .entry)))) ⌝ }
+    ghost { Tables }
+    requires { λ t. ⌜ tables (now sizes) (now pairs) (now rows) ≡ t ⌝ }
+    requires { λ t. ⌜ Framed t ⌝ }
+    ensures { λ t r. ⌜ r ≡ lowest (length (t .rows)) (badWord t) ⌝ }
 {
     let count = pairs.len() / 2;
     let mut word: usize = 0;

@@ -1,4 +1,8 @@
-// Digits, and numbers as they grow by one.
+// The digits of numbers.
+
+pub const TEN: u8 = 10;
+
+pub const SIXTEEN: u8 = 16;
 
 // The value of a hex digit in lower case; above 15 where the byte is none.
 pub fn digit(byte: u8) -> u8 {
@@ -17,47 +21,14 @@ pub fn digit(byte: u8) -> u8 {
     255
 }
 
-pub enum Base {
-    Ten,
-    Sixteen,
-}
-
-pub enum Grown {
-    To(u64),
-    TooLarge,
-    NoDigit,
-}
-
-// A number with one more digit behind it.
-pub fn with_digit(base: Base, value: u64, digit: u8) -> Grown {
-    match base {
-        Base::Ten => by_ten(value, digit),
-        Base::Sixteen => by_sixteen(value, digit),
-    }
-}
-
-fn by_ten(value: u64, digit: u8) -> Grown {
-    let more = wide(digit);
-    if 9 < more {
-        return Grown::NoDigit;
+// A number with one more digit behind it; a decimal number that grows past 64 bits stays as it is.
+pub fn with_digit(base: u8, value: u64, digit: u8) -> u64 {
+    let more = digit as u64;
+    if base == SIXTEEN {
+        return value % 1152921504606846976 * 16 + more % 16;
     }
     if (u64::MAX - more) / 10 < value {
-        return Grown::TooLarge;
+        return value;
     }
-    Grown::To(value * 10 + more)
-}
-
-fn by_sixteen(value: u64, digit: u8) -> Grown {
-    let more = wide(digit);
-    if 15 < more {
-        return Grown::NoDigit;
-    }
-    if u64::MAX / 16 < value {
-        return Grown::TooLarge;
-    }
-    Grown::To(value * 16 + more)
-}
-
-fn wide(digit: u8) -> u64 {
-    digit as u64
+    value * 10 + more
 }

@@ -1,21 +1,12 @@
 // The two questions about a given plan.
-use crate::lines;
 use crate::lists;
-use crate::lists::Many;
 use crate::say;
 
-pub fn given(line: &[u8], sizes: &[u8], pairs: &[u8], rows: &[u64], room: &mut [u8]) -> bool {
-    let Many::Count(count, after) = lists::bytes(line, 1, room) else {
-        return false;
-    };
-    if !lines::is_over(line, after) {
-        return false;
-    }
-    if count <= room.len() {
-        both(sizes, pairs, rows, &room[0..count]);
-        return true;
-    }
-    false
+pub fn given(text: &[u8], at: usize, sizes: &[u8], pairs: &[u8], rows: &[u64]) {
+    let mut room = [0u8; lists::BYTES];
+    let slots = lists::bytes(text, at, &mut room);
+    let count = slots.count;
+    both(sizes, pairs, rows, &room[0..count]);
 }
 
 fn both(sizes: &[u8], pairs: &[u8], rows: &[u64], plan: &[u8]) {

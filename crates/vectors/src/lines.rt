@@ -1,11 +1,11 @@
-// The input as lines, and what stands between the fields of one.
-ghost use Prim.Native.Nat.{_≤_, _<_};
+// The places of a text where something starts.
+ghost use Prim.Native.Nat.{_<_};
 ghost use lib.ListN.{length};
 
-// Where the line after the one that starts at a place starts: past its line feed, or where the text ends.
+// Past the next line feed, or where the text ends.
 pub fn next_line(text: &[u8], start: usize) -> usize
     requires { ⌜ start < length (now text) ⌝ }
-    ensures { λ r. ⌜ (start < r) × (r ≤ length (now (text .entry))) ⌝ }
+    ensures { λ r. ⌜ start < r ⌝ }
 {
     let mut at = start;
     while at < text.len() {
@@ -18,15 +18,11 @@ pub fn next_line(text: &[u8], start: usize) -> usize
 }
 
 // The place after a mark; the same place where it does not stand there.
-pub fn past(line: &[u8], at: usize, mark: u8) -> usize {
-    if at < line.len() {
-        if line[at] == mark {
+pub fn past(text: &[u8], at: usize, mark: u8) -> usize {
+    if at < text.len() {
+        if text[at] == mark {
             return at + 1;
         }
     }
     at
-}
-
-pub fn is_over(line: &[u8], at: usize) -> bool {
-    past(line, at, b'\n') == line.len()
 }

@@ -1,79 +1,78 @@
-// Fields that hold many: bytes of two hex digits, words with commas between. A lone '-' holds none.
+// Fields that hold many: bytes of two hex digits, or numbers with a mark between. A lone '-' holds none.
+ghost use Prim.Native.Nat.{_≤_};
+ghost use lib.ListN.{length};
 use crate::digits;
-use crate::digits::Base;
 use crate::lines;
-use crate::numbers;
-use crate::numbers::Number;
+
+// Room for sizes, pairs or a plan; some of the stored ones are past the limits.
+pub const BYTES: usize = 8192;
 
 // How many there are, and the place after them.
-pub enum Many {
-    Count(usize, usize),
-    Bad,
+pub struct Many {
+    pub count: usize,
+    pub after: usize,
 }
 
-pub fn bytes(line: &[u8], at: usize, into: &mut [u8]) -> Many {
-    let start = lines::past(line, at, b' ');
-    let after = lines::past(line, start, b'-');
-    if start < after {
-        return Many::Count(0, after);
+// Each digit moves the one before it up, so that two make a byte whatever the room held.
+pub fn bytes(text: &[u8], start: usize, into: &mut [u8]) -> Many
+    ensures { λ r. ⌜ r .count ≤ length (now (into .exit)) ⌝ }
+{
+    let mut read: usize = 0;
+    let mut at = lines::past(text, start, b' ');
+    while at < text.len() {
+        let digit = digits::digit(text[at]);
+        if 15 < digit {
+            break;
+        }
+        if into.len() <= read / 2 {
+            break;
+        }
+        into[read / 2] = into[read / 2] % 16 * 16 + digit;
+        read += 1;
+        at += 1;
     }
-    read_bytes(line, start, into)
+    Many {
+        count: read / 2,
+        after: lines::past(text, at, b'-'),
+    }
 }
 
-fn read_bytes(line: &[u8], start: usize, into: &mut [u8]) -> Many {
+pub fn numbers(base: u8, mark: u8, text: &[u8], start: usize, into: &mut [u64]) -> Many
+    ensures { λ r. ⌜ r .count ≤ length (now (into .exit)) ⌝ }
+{
     let mut count: usize = 0;
-    let mut at = start;
-    while at < line.len() {
-        let next = at + 1;
-        if line.len() <= next {
-            break;
-        }
-        let high = digits::digit(line[at]);
-        let low = digits::digit(line[next]);
-        if 15 < high {
-            break;
-        }
-        if 15 < low {
-            break;
-        }
-        if into.len() <= count {
-            return Many::Bad;
-        }
-        into[count] = high * 16 + low;
-        count += 1;
-        at = next + 1;
-    }
-    if count == 0 {
-        return Many::Bad;
-    }
-    Many::Count(count, at)
-}
-
-pub fn words(line: &[u8], at: usize, into: &mut [u64]) -> Many {
-    let start = lines::past(line, at, b' ');
-    let after = lines::past(line, start, b'-');
-    if start < after {
-        return Many::Count(0, after);
-    }
-    read_words(line, start, into)
-}
-
-// Ends with a word that no comma follows; with more words than there is room for it fails.
-fn read_words(line: &[u8], start: usize, into: &mut [u64]) -> Many {
-    let mut count: usize = 0;
-    let mut at = start;
+    let mut at = lines::past(text, start, b' ');
     while count < into.len() {
-        match numbers::read(Base::Sixteen, line, at) {
-            Number::Bad => return Many::Bad,
-            Number::Is(word, next) => {
-                into[count] = word;
-                count += 1;
-                at = lines::past(line, next, b',');
-                if at == next {
-                    return Many::Count(count, at);
-                }
-            }
+        let read = all_digits(base, text, at);
+        if read.after == at {
+            break;
         }
+        into[count] = read.value;
+        count += 1;
+        at = lines::past(text, read.after, mark);
     }
-    Many::Bad
+    Many {
+        count,
+        after: lines::past(text, at, b'-'),
+    }
+}
+
+struct Number {
+    value: u64,
+    after: usize,
+}
+
+// All digits from a place on.
+fn all_digits(base: u8, text: &[u8], start: usize) -> Number {
+    let mut value: u64 = 0;
+    let mut at = start;
+    while at < text.len() {
+        let digit = digits::digit(text[at]);
+        if base <= digit {
+            break;
+        }
+        value = digits::with_digit(base, value, digit);
+        at += 1;
+    }
+    Number { value, after: at }
 }

@@ -1,105 +1,88 @@
 // Run a method.
+use crate::digits;
 use crate::lent;
-use crate::lines;
-use crate::numbers;
-use crate::numbers::Number;
+use crate::lists;
 use crate::say;
+use problem::Reply;
 
-// What a run is given beside the tables.
-struct Terms {
+// Room for the memory that the stored problems lend; some of it is more than a run needs.
+const PLAN: usize = 512;
+
+const WORDS: usize = 9216;
+
+// What a run is given beside the tables and the memory.
+struct Asked {
     method: u64,
     checks: u64,
     trials: u64,
-    bytes: usize,
-    words: usize,
 }
 
-enum Read {
-    Terms(Terms),
-    Bad,
-}
-
-pub fn run(
-    line: &[u8],
-    sizes: &[u8],
-    pairs: &[u8],
-    rows: &[u64],
-    plan: &mut [u8],
-    words: &mut [u64],
-) -> bool {
-    let Read::Terms(terms) = terms_of(line) else {
-        return false;
+pub fn run(text: &[u8], at: usize, sizes: &[u8], pairs: &[u8], rows: &[u64]) {
+    let mut terms = [0u64; 5];
+    lists::numbers(digits::TEN, b' ', text, at, &mut terms);
+    let asked = Asked {
+        method: terms[0],
+        checks: terms[1],
+        trials: terms[2],
     };
-    let bytes = terms.bytes;
-    let count = terms.words;
-    if bytes <= plan.len() {
-        if count <= words.len() {
+    with_memory(
+        asked,
+        sizes,
+        pairs,
+        rows,
+        terms[3] as usize,
+        terms[4] as usize,
+    );
+}
+
+// A run that is to be lent more than there is room for is not made.
+fn with_memory(asked: Asked, sizes: &[u8], pairs: &[u8], rows: &[u64], bytes: usize, count: usize) {
+    let mut plan = [255u8; PLAN];
+    let mut words = [0u64; WORDS];
+    if bytes <= PLAN {
+        if count <= WORDS {
             lending(
-                terms,
+                asked,
                 sizes,
                 pairs,
                 rows,
                 &mut plan[0..bytes],
                 &mut words[0..count],
             );
-            return true;
         }
     }
-    false
-}
-
-fn terms_of(line: &[u8]) -> Read {
-    let Number::Is(method, after_method) = numbers::field(line, 1) else {
-        return Read::Bad;
-    };
-    let Number::Is(checks, after_checks) = numbers::field(line, after_method) else {
-        return Read::Bad;
-    };
-    let Number::Is(trials, after_trials) = numbers::field(line, after_checks) else {
-        return Read::Bad;
-    };
-    let Number::Is(bytes, after_bytes) = numbers::field(line, after_trials) else {
-        return Read::Bad;
-    };
-    let Number::Is(words, after_words) = numbers::field(line, after_bytes) else {
-        return Read::Bad;
-    };
-    if !lines::is_over(line, after_words) {
-        return Read::Bad;
-    }
-    Read::Terms(Terms {
-        method,
-        checks,
-        trials,
-        bytes: bytes as usize,
-        words: words as usize,
-    })
 }
 
 fn lending(
-    terms: Terms,
+    asked: Asked,
     sizes: &[u8],
     pairs: &[u8],
     rows: &[u64],
     plan: &mut [u8],
     words: &mut [u64],
 ) {
-    lent::fill_bytes(plan);
     lent::fill_words(words);
-    let reply = planner::run(
-        terms.method,
+    say::replied(ran(asked, sizes, pairs, rows, plan, words));
+    lent::measured(plan, words);
+}
+
+// The run without its promise, which nothing here needs.
+fn ran(
+    asked: Asked,
+    sizes: &[u8],
+    pairs: &[u8],
+    rows: &[u64],
+    plan: &mut [u8],
+    words: &mut [u64],
+) -> Reply {
+    planner::run(
+        asked.method,
         sizes,
         pairs,
         rows,
         plan,
         words,
-        terms.checks,
-        terms.trials,
-    );
-    say::replied(reply, sizes.len(), plan);
-    let changed = lent::changed_words(words);
-    say::number(lent::changed_bytes(plan) as u64);
-    say::number(changed as u64);
-    say::number(lent::not_zero(words, changed) as u64);
-    say::text(b"\n");
+        asked.checks,
+        asked.trials,
+    )
 }

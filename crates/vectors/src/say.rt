@@ -16,12 +16,6 @@ pub fn number(n: u64) {
     io::print_decimal(1, n);
 }
 
-pub fn not_understood(line: usize) {
-    text(b"not understood: line");
-    number(line as u64);
-    text(b"\n");
-}
-
 fn answer(told: u64, place: u64) {
     number(told);
     number(place);
@@ -40,10 +34,14 @@ fn from_100(number: u64) -> u64 {
     number
 }
 
-pub fn examined(found: Examined) {
+// The place of fine tables is 0 where their own numbers are the ones given here.
+pub fn examined(found: Examined, boats: usize, pairs: usize, words: usize) {
     text(b"t");
     match found {
-        Examined::Fine(_) => answer(0, 0),
+        Examined::Fine(own) => {
+            let off = own.boats ^ boats | own.pairs ^ pairs | own.words ^ words;
+            answer(0, off as u64);
+        }
         Examined::Refused(why) => refused(why),
     }
     text(b"\n");
@@ -65,22 +63,17 @@ pub fn broken(found: Broken) {
     }
 }
 
-pub fn replied(reply: Reply, boats: usize, plan: &[u8]) {
+pub fn replied(reply: Reply) {
     text(b"r");
-    let mut slots: usize = 0;
     let answered = reply.answer;
     match answered {
-        Answer::Solved => {
-            answer(0, 0);
-            slots = boats;
-        }
+        Answer::Solved => answer(0, 0),
         Answer::NoPlan => answer(1, 0),
         Answer::Undecided(by) => undecided(by),
         Answer::Refused(why) => refused(why),
     }
     number(reply.checks);
     number(reply.trials);
-    bytes(slots, plan);
 }
 
 fn undecided(by: Allowance) {
@@ -90,35 +83,41 @@ fn undecided(by: Allowance) {
     }
 }
 
-// The first so many bytes, in hex.
-fn bytes(count: usize, plan: &[u8]) {
+// Before a field that holds many: a lone '-' where it holds none.
+fn begin(count: usize) {
     text(b" ");
     if count == 0 {
         text(b"-");
     }
+}
+
+// Bytes in hex.
+pub fn bytes(shown: &[u8]) {
+    begin(shown.len());
     let mut k: usize = 0;
-    while k < count && k < plan.len() {
-        io::print_hex(1, wide(plan[k]), 2);
+    while k < shown.len() {
+        byte(shown[k]);
         k += 1;
     }
 }
 
-fn wide(byte: u8) -> u64 {
-    byte as u64
+fn byte(one: u8) {
+    io::print_hex(1, one as u64, 2);
 }
 
 // Words in hex, with commas between.
 pub fn words(shown: &[u64]) {
-    text(b" ");
-    if shown.len() == 0 {
-        text(b"-");
-    }
+    begin(shown.len());
     let mut k: usize = 0;
     while k < shown.len() {
-        if 0 < k {
-            text(b",");
-        }
-        io::print_hex(1, shown[k], 1);
+        word(k, shown[k]);
         k += 1;
     }
+}
+
+fn word(k: usize, one: u64) {
+    if 0 < k {
+        text(b",");
+    }
+    io::print_hex(1, one, 1);
 }

@@ -1,21 +1,12 @@
 // Show the rows of a pair.
-use crate::lines;
-use crate::numbers;
-use crate::numbers::Number;
+use crate::digits;
+use crate::lists;
 use crate::say;
 
-pub fn shown(line: &[u8], sizes: &[u8], pairs: &[u8], rows: &[u64]) -> bool {
-    let Number::Is(lower, after_lower) = numbers::field(line, 1) else {
-        return false;
-    };
-    let Number::Is(higher, after_higher) = numbers::field(line, after_lower) else {
-        return false;
-    };
-    if !lines::is_over(line, after_higher) {
-        return false;
-    }
-    of_pair(sizes, pairs, rows, lower as usize, higher as usize);
-    true
+pub fn shown(text: &[u8], at: usize, sizes: &[u8], pairs: &[u8], rows: &[u64]) {
+    let mut boats = [0u64; 2];
+    lists::numbers(digits::TEN, b' ', text, at, &mut boats);
+    of_pair(sizes, pairs, rows, boats[0] as usize, boats[1] as usize);
 }
 
 fn of_pair(sizes: &[u8], pairs: &[u8], rows: &[u64], lower: usize, higher: usize) {

@@ -1,4 +1,4 @@
--- The index for looking ahead, filled boat by boat. Assumes nothing.
+-- The index for looking ahead, filled boat by boat.
 use mathlib.Core.Path.{_≡_, sym, ap, _∙_}
 use mathlib.Core.List.{List}
 use Prim.Native.Nat.{ℕ, _+_, _-_, _*_, _≤_, _<_}
@@ -9,8 +9,8 @@ use lib.Seq.{getD-set-same, getD-set-other}
 use Rattle.problem.specs.Tables.{Tables, boats, size, start}
 use Rattle.problem.specs.Sane.{Sane}
 use Rattle.problem.proofs.Starts.{start-zero}
-use Rattle.words.specs.Layout.{word, Only, firstPair, Firsts}
-use Rattle.words.proofs.Only.{only-refl, only-trans, only-set}
+use Rattle.words.specs.Layout.{word, ChangedOnly, firstPair, Firsts}
+use Rattle.words.proofs.ChangedOnly.{only-refl, only-trans, only-set}
 use Rattle.words.proofs.Firsts.{first-le, first-zero, start-first, start-few}
 
 abbrev firstRow : Tables → (i : ℕ) → ℕ
@@ -23,7 +23,7 @@ pub record AheadTo (t : Tables) (w₀ w : List ℕ) (k n i : ℕ) : Type 0 where
   pub begins : n ≡ firstRow t i
   pub pairFrom : (j : ℕ) → j < i → word w (192 + j) ≡ firstPair (t .pairs) j
   pub rowFrom : (j : ℕ) → j < i → word w (320 + j) ≡ firstRow t j
-  pub only : Only 192 384 w₀ w
+  pub only : ChangedOnly 192 384 w₀ w
 
 module _ {t : Tables} where
   pub ahead-none : (w : List ℕ) → AheadTo t w w 0 0 0
@@ -48,10 +48,10 @@ module _ {t : Tables} where
     rows-kept : (j : ℕ) → j < i → word (set w (192 + i) k) (320 + j) ≡ firstRow t j
     rows-kept j l = getD-set-other w (192 + i) (320 + j) k 0 (omega arith) ∙ a .rowFrom j l
 
-    first-only : Only 192 384 w₀ (set w (192 + i) k)
+    first-only : ChangedOnly 192 384 w₀ (set w (192 + i) k)
     first-only = only-trans (a .only) (only-set w (192 + i) k (omega arith) (omega arith))
 
-    pub ahead-all : boats t ≤ i → Firsts t (set w (192 + boats t) k) × Only 192 384 w₀ (set w (192 + boats t) k)
+    pub ahead-all : boats t ≤ i → Firsts t (set w (192 + boats t) k) × ChangedOnly 192 384 w₀ (set w (192 + boats t) k)
     ahead-all le =
         let e : boats t ≡ i = omega arith in
         rw e (record { pairFrom = λ j l. pairs-put j (omega arith); rowFrom = λ j l. rows-kept j (omega arith) }, first-only)

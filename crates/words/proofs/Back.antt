@@ -1,4 +1,4 @@
--- The index for looking back, filled pair by pair. Assumes nothing.
+-- The index for looking back, filled pair by pair.
 use mathlib.Core.Path.{_≡_, sym, ap, ap₂, _∙_}
 use mathlib.Core.Bool.{cond}
 use mathlib.Core.List.{List}
@@ -14,9 +14,10 @@ use Rattle.problem.specs.Tables.{Tables, boats, size, listed, lower, higher, pl
 use Rattle.problem.specs.Sane.{Sane}
 use Rattle.problem.proofs.Starts.{start-zero, start-next}
 use Rattle.problem.proofs.Places.{place-at, place-pair}
-use Rattle.words.specs.Layout.{word, Only, Zero, tri, indexOf, Indexed}
+use Rattle.words.specs.Places.{tri}
+use Rattle.words.specs.Layout.{word, ChangedOnly, Zero, indexOf, Indexed}
 use Rattle.words.proofs.Triangle.{tri-small, tri-once}
-use Rattle.words.proofs.Only.{only-refl, only-trans, only-set}
+use Rattle.words.proofs.ChangedOnly.{only-refl, only-trans, only-set}
 use Rattle.words.proofs.Firsts.{start-few}
 
 -- the word of the pair at place p, once the pairs below k are in the index
@@ -38,7 +39,7 @@ pub record BackTo (t : Tables) (w₀ w : List ℕ) (n k : ℕ) : Type 0 where
   pub upTo : k ≤ listed (t .pairs)
   pub begins : n ≡ start (t .sizes) (t .pairs) k
   pub filled : IndexedTo t k w
-  pub only : Only 512 4096 w₀ w
+  pub only : ChangedOnly 512 4096 w₀ w
 
 module _ (t : Tables) where
   at-below : (k p : ℕ) → p < k → indexedAt t k p ≡ suc (start (t .sizes) (t .pairs) p)

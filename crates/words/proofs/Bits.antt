@@ -1,4 +1,4 @@
--- A set of boats as one word: members, union, a single boat, what lies below a boat, the deepest. Assumes nothing.
+-- A set of boats as one word: members, union, a single boat, what lies below a boat, the deepest.
 use mathlib.Core.Path.{_≡_, refl, sym, _∙_, ap}
 use mathlib.Core.Bool.{Bool, true, false, cond, not, _&&_, _||_, and-true, and-false, or-comm}
 use mathlib.Core.Option.{none, some}

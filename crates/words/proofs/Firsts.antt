@@ -1,4 +1,4 @@
--- The first pair of a boat, and where its rows begin. Assumes nothing.
+-- The first pair of a boat, and where its rows begin.
 use mathlib.Core.Path.{_≡_, sym, ap, _∙_}
 use mathlib.Core.Logic.{⊎-elim}
 use mathlib.Core.List.{List}

@@ -1,11 +1,12 @@
 pub mod Bits
 pub mod Triangle
-pub mod Only
+pub mod ChangedOnly
 pub mod Zeroed
 pub mod Firsts
 pub mod Back
 pub mod Links
+pub mod Rows
 pub mod Linking
 pub mod Linked
+pub mod Frames
 pub mod Ahead
-pub mod Visiting

@@ -1,4 +1,4 @@
--- Every boat's links, made boat by boat. Assumes nothing.
+-- Every boat's links, made boat by boat.
 use mathlib.Core.Path.{_≡_, ap, _∙_}
 use mathlib.Core.Logic.{_⊎_, inl, inr}
 use mathlib.Core.List.{List}
@@ -9,10 +9,11 @@ use lib.ListN.{length, set}
 use lib.Seq.{getD-set-same, getD-set-other}
 use Rattle.problem.specs.Tables.{Tables, boats}
 use Rattle.problem.specs.Sane.{Sane}
-use Rattle.words.specs.Layout.{word, Only, tri, indexOf, Indexed}
+use Rattle.words.specs.Places.{tri}
+use Rattle.words.specs.Layout.{word, ChangedOnly, indexOf, Indexed}
 use Rattle.words.specs.Links.{Links, Linked}
 use Rattle.words.proofs.Triangle.{tri-next, tri-small, tri-mono}
-use Rattle.words.proofs.Only.{only-refl, only-trans, only-set, only-widen}
+use Rattle.words.proofs.ChangedOnly.{only-refl, only-trans, only-set, only-widen}
 use Rattle.words.proofs.Links.{links-bounds, links-stay}
 
 -- where the links of boat k begin
@@ -29,11 +30,11 @@ firstPut w i r = set w (193 + i) r
 -- before boat i, whose links begin at 512 + at: the later boats' index rows are as they were
 pub record LinkedTo (t : Tables) (w₀ w : List ℕ) (at i : ℕ) : Type 0 where
   pub upTo : i ≤ boats t
-  pub here : first w i ≡ at
+  pub toCome : first w i ≡ at
   pub few : (k : ℕ) → k < i + 1 → (first w k ≤ tri k) × (first w k ≤ at)
   pub links : (k : ℕ) → k < i → LinksOf t w k
   pub indexed : (h k : ℕ) → h < k → i ≤ k → k < boats t → word w (512 + tri k + h) ≡ indexOf t h k
-  pub only : Only 192 4096 w₀ w
+  pub only : ChangedOnly 192 4096 w₀ w
 
 module _ {t : Tables} where
   pub linked-none : (w : List ℕ) → 8192 ≤ length w → Indexed t w → LinkedTo t (set w 192 0) (set w 192 0) 0 0
@@ -41,7 +42,7 @@ module _ {t : Tables} where
       let e : word (set w 192 0) 192 ≡ 0 = getD-set-same w 192 0 0 (omega arith) in
       record {
         upTo = omega arith;
-        here = e;
+        toCome = e;
         few = below-more _ 0 (λ k l. absurd (omega arith)) (omega arith);
         links = λ k l. absurd (omega arith);
         indexed = λ h k lh lo hi. getD-set-other w 192 (512 + tri k + h) 0 0 (omega arith) ∙ d h k lh hi;
@@ -50,14 +51,14 @@ module _ {t : Tables} where
 
   module _ (s : Sane t) {w₀ w : List ℕ} {at i : ℕ} (b : LinkedTo t w₀ w at i) where
     pub linked-at : at ≤ tri i
-    linked-at = omega (arith, b .few i (omega arith), b .here)
+    linked-at = omega (arith, b .few i (omega arith), b .toCome)
 
     pub linked-all : boats t ≤ i → Linked t w
     linked-all le = record { few = λ k l. b .few k (omega arith) .0; links = λ k l. b .links k (omega arith) }
 
     -- once boat i's links are made, and where they end is the next boat's word
     module _ {w₁ : List ℕ} {r : ℕ} (li : i < boats t) (long : 8192 ≤ length w) (made : (r ≤ at + i) × Links t w₁ i i 0 at r)
-        (own : Only (512 + at) (512 + tri i + i) w w₁) where
+        (own : ChangedOnly (512 + at) (512 + tri i + i) w w₁) where
       put-other : (k : ℕ) → (k < 512 + at) ⊎ (512 + tri i + i ≤ k) → (k ≡ 193 + i → ⊥) → word (firstPut w₁ i r) k ≡ word w k
       put-other k away ne = getD-set-other w₁ (193 + i) k r 0 ne ∙ own .others k away
 
@@ -78,7 +79,7 @@ module _ {t : Tables} where
 
       links-here : LinksOf t (firstPut w₁ i r) i
       links-here =
-          rw (put-first i (omega arith), b .here, put-here)
+          rw (put-first i (omega arith), b .toCome, put-here)
           (links-stay (λ m lo hi. getD-set-other w₁ (193 + i) (512 + m) r 0 (omega arith)) (made .1))
 
       pub linked-more : LinkedTo t w₀ (firstPut w₁ i r) r (i + 1)
@@ -88,7 +89,7 @@ module _ {t : Tables} where
           let q = links-bounds (made .1) in
           record {
             upTo = omega arith;
-            here = z;
+            toCome = z;
             few =
                 below-more _ (i + 1)
                 (λ k l. let f = b .few k l in let p = put-first k l in omega arith)

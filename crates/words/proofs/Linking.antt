@@ -1,4 +1,4 @@
--- A boat's index row becomes its links, boat by boat below it. Assumes nothing.
+-- A boat's index row becomes its links, boat by boat below it.
 use mathlib.Core.Path.{_≡_, refl, ap, _∙_}
 use mathlib.Core.Logic.{inr}
 use mathlib.Core.Bool.{Bool, true, false}
@@ -11,20 +11,21 @@ use lib.Seq.{getD-set-same, getD-set-other}
 use Rattle.problem.specs.Tables.{Tables, place, isListed, start}
 use Rattle.problem.specs.Sane.{Sane}
 use Rattle.problem.proofs.Places.{listed-lt}
-use Rattle.words.specs.Layout.{word, Only, tri, indexOf}
+use Rattle.words.specs.Places.{tri}
+use Rattle.words.specs.Layout.{word, ChangedOnly, indexOf}
 use Rattle.words.specs.Links.{linkOf, Links}
 use Rattle.words.specs.Links.Links.{none}
-use Rattle.words.proofs.Only.{only-refl, only-trans, only-set, only-widen}
+use Rattle.words.proofs.ChangedOnly.{only-refl, only-trans, only-set, only-widen}
 use Rattle.words.proofs.Firsts.{start-few}
 use Rattle.words.proofs.Links.{links-bounds, links-stay, links-past, links-link}
 
 -- ---- what an index word says of the link
 module _ (t : Tables) (h i index : ℕ) (e : index ≡ indexOf t h i) where
-  index-unlisted : isListed (t .pairs) h i ≡ false → index ≡ 0
+  pub index-unlisted : isListed (t .pairs) h i ≡ false → index ≡ 0
   unfolding indexOf
   index-unlisted u = e ∙ rw (u, indexOf)
 
-  index-listed : isListed (t .pairs) h i ≡ true → index ≡ suc (start (t .sizes) (t .pairs) (place (t .pairs) h i))
+  pub index-listed : isListed (t .pairs) h i ≡ true → index ≡ suc (start (t .sizes) (t .pairs) (place (t .pairs) h i))
   unfolding indexOf
   index-listed l = e ∙ rw (l, indexOf)
 
@@ -35,7 +36,7 @@ module _ (t : Tables) (h i index : ℕ) (e : index ≡ indexOf t h i) where
       by false l = refl
       by true l = absurd (omega (arith, index-listed l))
 
-  listed-index : 0 < index → isListed (t .pairs) h i ≡ true
+  pub listed-index : 0 < index → isListed (t .pairs) h i ≡ true
   listed-index pos = by (isListed (t .pairs) h i) refl
     where
       by : (b : Bool) → isListed (t .pairs) h i ≡ b → b ≡ true
@@ -60,7 +61,7 @@ module _ (t : Tables) (h i index : ℕ) (e : index ≡ indexOf t h i) where
 pub record RowTo (t : Tables) (w₀ w : List ℕ) (i from to h : ℕ) : Type 0 where
   pub upTo : h ≤ i
   pub links : Links t w i h 0 from to
-  pub only : Only (512 + from) (512 + to) w₀ w
+  pub only : ChangedOnly (512 + from) (512 + to) w₀ w
 
 pub row-none : {t : Tables} (w : List ℕ) (i from : ℕ) → RowTo t w w i from from 0
 row-none w i from = record { upTo = omega arith; links = none; only = only-refl (512 + from) (512 + from) w }
@@ -98,7 +99,7 @@ module _ {t : Tables} {w₀ w : List ℕ} {i from to h : ℕ} (b : RowTo t w₀ 
           only = only-trans (only-widen (omega arith) (omega arith) (b .only)) (only-set w (512 + to) v (omega arith) (omega arith));
         }
 
-  pub row-all : from ≤ tri i → i ≤ h → ((to ≤ from + i) × Links t w i i 0 from to) × Only (512 + from) (512 + tri i + i) w₀ w
+  pub row-all : from ≤ tri i → i ≤ h → ((to ≤ from + i) × Links t w i i 0 from to) × ChangedOnly (512 + from) (512 + tri i + i) w₀ w
   row-all low le =
       let e : h ≡ i = omega arith in
       let q = row-bounds in

@@ -1,4 +1,4 @@
--- The links of a boat: where they are, and how one more boat is passed. Assumes nothing.
+-- The links of a boat: where they are, and how one more boat is passed.
 use mathlib.Core.Path.{_≡_, _∙_}
 use mathlib.Core.Bool.{true, false}
 use mathlib.Core.List.{List}

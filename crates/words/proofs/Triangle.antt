@@ -1,4 +1,4 @@
--- The triangular numbers by which the index is laid out. Assumes nothing.
+-- The triangular numbers by which the index is laid out.
 use mathlib.Core.Path.{_≡_, refl, ap, _∙_}
 use Prim.Native.Nat.{ℕ, zero, suc, _+_, _*_, _≤_, _<_}
 use native.Mathlib.Nat.{suc-mul, mul-suc, le-refl, eq-or-lt-of-le, le-of-suc-le-suc}
@@ -6,7 +6,7 @@ use mathlib.Core.Logic.{_⊎_, inl, inr}
 use native.Mathlib.Decide.{decLt}
 use native.Mathlib.Numerals.{add-one}
 use native.Mathlib.Omega.{arith}
-use Rattle.words.specs.Layout.{tri}
+use Rattle.words.specs.Places.{tri}
 
 pub tri-next : (i : ℕ) → tri (i + 1) ≡ tri i + i
 unfolding tri

@@ -1,30 +1,21 @@
--- The working words: where a run keeps what it remembers in the first 8,192 of them. Assumes nothing.
---   i                  the slot in hand of boat i
---   64 + i             CBJ, FC-CBJ: the conflict set of boat i; BM: its b
---   192 + i            FC, FC-CBJ: the first listed pair with boat i, or a later one, as its lower boat (i from 0 to n); BT, CBJ: its first link
---   320 + i            FC, FC-CBJ: the word where the rows of that pair begin
---   512 + tri i + h    BM: for boats h below i, one more than the word where the rows of their pair begin; 0 where it is not listed
---   512 + q            BT, CBJ: the links of the boats, one boat after the other (Links.antt)
---   4096 + 64 i + k    BM: the mark of slot k of boat i; FC, FC-CBJ: the live slots of boat k as they are before boat i's trial
+-- The working words: where a run keeps what it remembers in the first 8,192 of them. (Places.antt names the places.)
 use mathlib.Core.Path.{_≡_}
 use mathlib.Core.Logic.{_⊎_}
 use mathlib.Core.Bool.{cond}
 use mathlib.Core.List.{List, _++_}
-use Prim.Native.Nat.{ℕ, zero, suc, _+_, _*_, _≤_, _<_}
+use Prim.Native.Nat.{ℕ, suc, _≤_, _<_}
 use lib.Dec.{leb}
 use lib.ListN.{length, getD, drop, replicate}
 use Rattle.problem.specs.Lowest.{lowest}
 use Rattle.problem.specs.Tables.{Tables, boats, size, listed, lower, place, isListed, start}
-
-abbrev pub tables : (sizes pairs rows : List ℕ) → Tables
-tables sizes pairs rows = record { sizes = sizes; pairs = pairs; rows = rows }
+use Rattle.words.specs.Places.{indexAt, startAt, rowStartAt, levelAt}
 
 abbrev pub word : List ℕ → ℕ → ℕ
 word w k = getD w k 0
 
 -- ---- what a call leaves as it was
 -- the words from one place up to another may have changed, and no others
-pub record Only (from to : ℕ) (w w′ : List ℕ) : Type 0 where
+pub record ChangedOnly (from to : ℕ) (w w′ : List ℕ) : Type 0 where
   pub long : length w′ ≡ length w
   pub others : (k : ℕ) → (k < from) ⊎ (to ≤ k) → word w′ k ≡ word w k
 
@@ -41,16 +32,11 @@ abbrev pub Placed : Tables → List ℕ → ℕ → Type 0
 Placed t w i = (h : ℕ) → h < i → word w h < size (t .sizes) h
 
 -- ---- the index of pairs, from which links are made
--- 0 + 1 + .. + (i - 1)
-unfoldable pub tri : ℕ → ℕ
-tri zero = 0
-tri (suc i) = tri i + i
-
 unfoldable pub indexOf : Tables → (h i : ℕ) → ℕ
 indexOf t h i = cond (isListed (t .pairs) h i) (suc (start (t .sizes) (t .pairs) (place (t .pairs) h i))) 0
 
 abbrev pub Indexed : Tables → List ℕ → Type 0
-Indexed t w = (h i : ℕ) → h < i → i < boats t → word w (512 + tri i + h) ≡ indexOf t h i
+Indexed t w = (h i : ℕ) → h < i → i < boats t → word w (indexAt h i) ≡ indexOf t h i
 
 -- ---- the index for looking ahead
 -- the first listed pair whose lower boat is i or a later one; `listed` where there is none
@@ -58,9 +44,9 @@ unfoldable pub firstPair : List ℕ → ℕ → ℕ
 firstPair pairs i = lowest (listed pairs) (λ k. leb i (lower pairs k))
 
 pub record Firsts (t : Tables) (w : List ℕ) : Type 0 where
-  pub pairFrom : (i : ℕ) → i ≤ boats t → word w (192 + i) ≡ firstPair (t .pairs) i
-  pub rowFrom : (i : ℕ) → i < boats t → word w (320 + i) ≡ start (t .sizes) (t .pairs) (firstPair (t .pairs) i)
+  pub pairFrom : (i : ℕ) → i ≤ boats t → word w (startAt i) ≡ firstPair (t .pairs) i
+  pub rowFrom : (i : ℕ) → i < boats t → word w (rowStartAt i) ≡ start (t .sizes) (t .pairs) (firstPair (t .pairs) i)
 
 -- ---- the live words
 abbrev pub liveAt : List ℕ → (level j : ℕ) → ℕ
-liveAt w level j = word w (4096 + 64 * level + j)
+liveAt w level j = word w (levelAt level j)

@@ -1,4 +1,4 @@
+pub mod Places
 pub mod Layout
 pub mod Links
 pub mod Sets
-pub mod Visits

@@ -1,4 +1,4 @@
--- Sets of boats as words, and the conflict sets that the working words hold. Assumes nothing.
+-- Sets of boats as words, and the conflict sets that the working words hold.
 use mathlib.Core.Path.{_≡_}
 use mathlib.Core.Bool.{true, false, cond, not, _&&_, _||_}
 use mathlib.Core.List.{List}
@@ -6,6 +6,7 @@ use Prim.Native.Nat.{ℕ, _+_, _^_, _≤_, _<_}
 use lib.Dec.{ltb, eqb}
 use Rattle.problem.specs.Tables.{bit}
 use Rattle.methods.specs.CBJ.{Sets}
+use Rattle.words.specs.Places.{setAt}
 use Rattle.words.specs.Layout.{word}
 
 -- r is the set s with boat h
@@ -30,10 +31,10 @@ pub record HandedDown (s u h r : ℕ) : Type 0 where
 abbrev pub membersOf : (ℕ → ℕ) → Sets
 membersOf f = λ k j. bit (f k) j
 
--- boat i has the set s, the boats below it have theirs from word 64 on, and those above it have none
+-- boat i has the set s, the boats below it have theirs in their words, and those above it have none
 abbrev pub setWords : List ℕ → (i s : ℕ) → ℕ → ℕ
-setWords w i s = λ k. cond (eqb k i) s (cond (ltb k i) (word w (64 + k)) 0)
+setWords w i s = λ k. cond (eqb k i) s (cond (ltb k i) (word w (setAt k)) 0)
 
 -- the set of each boat up to i has only boats below that boat
-abbrev pub Lower : List ℕ → ℕ → Type 0
-Lower w i = (k : ℕ) → k ≤ i → word w (64 + k) < 2 ^ k
+abbrev pub SetsBelow : List ℕ → ℕ → Type 0
+SetsBelow w i = (k : ℕ) → k ≤ i → word w (setAt k) < 2 ^ k

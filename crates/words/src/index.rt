@@ -3,24 +3,29 @@ ghost use mathlib.Core.Path.{_≡_};
 ghost use Prim.Native.Nat.{ℕ, _+_, _≤_, _<_};
 ghost use lib.ListN.{length};
 ghost use Rattle.problem.specs.Rising.{Rising};
+ghost use Rattle.problem.specs.Tables.{Tables, tables, boats};
 ghost use Rattle.problem.specs.Sane.{Sane};
-ghost use Rattle.words.specs.Layout.{tables, word, tri, indexOf, firstPair, Only, Zero, Indexed, Firsts};
+ghost use Rattle.words.specs.Places.{tri, starts, index, marks, linkAt, indexAt, used, rowStartsEnd};
+ghost use Rattle.words.specs.Layout.{word, indexOf, firstPair, ChangedOnly, Zero, Indexed, Firsts};
 ghost use Rattle.words.specs.Links.{Links, Linked};
+use crate::places::Words;
 
 // The index row of a boat: its words for the boats below it.
 pub fn row_at(boat: usize) -> usize
     requires { ⌜ boat < 64 ⌝ }
-    ensures { λ r. ⌜ r ≡ 512 + tri boat ⌝ }
+    ensures { λ r. ⌜ r ≡ index + tri boat ⌝ }
 {
-    512 + (boat * boat - boat) / 2
+    Words::INDEX + (boat * boat - boat) / 2
 }
 
 // For BM: at each two boats' word, one more than where the rows of their pair begin. An unlisted pair's word stays 0.
 pub fn index_back(sizes: &[u8], pairs: &[u8], rows: &[u64], work: &mut [u64])
-    requires { ⌜ Sane (tables (now sizes) (now pairs) (now rows)) ⌝ }
-    requires { ⌜ (8192 ≤ length (now work)) × Zero 512 4096 (now work) ⌝ }
-    ensures { λ _. ⌜ Indexed (tables (now (sizes .entry)) (now (pairs .entry)) (now (rows .entry))) (now (work .exit)) ⌝ }
-    ensures { λ _. ⌜ Only 512 4096 (now (work .entry)) (now (work .exit)) ⌝ }
+    ghost { Tables }
+    requires { λ t. ⌜ tables (now sizes) (now pairs) (now rows) ≡ t ⌝ }
+    requires { λ t. ⌜ Sane t ⌝ }
+    requires { λ _. ⌜ (used ≤ length (now work)) × Zero index marks (now work) ⌝ }
+    ensures { λ t _. ⌜ Indexed t (now (work .exit)) ⌝ }
+    ensures { λ _ _. ⌜ ChangedOnly index marks (now (work .entry)) (now (work .exit)) ⌝ }
 {
     let count = pairs.len() / 2;
     let mut start: usize = 0;
@@ -43,11 +48,13 @@ fn link_boat(
     from: usize,
     work: &mut [u64],
 ) -> usize
-    requires { ⌜ Sane (tables (now sizes) (now pairs) (now rows)) ⌝ }
-    requires { ⌜ (i < length (now sizes)) × (from ≤ tri i) × (8192 ≤ length (now work)) ⌝ }
-    requires { ⌜ ((h : ℕ) → h < i → word (now work) (512 + tri i + h) ≡ indexOf (tables (now sizes) (now pairs) (now rows)) h i) ⌝ }
-    ensures { λ r. ⌜ (r ≤ from + i) × Links (tables (now (sizes .entry)) (now (pairs .entry)) (now (rows .entry))) (now (work .exit)) i i 0 from r ⌝ }
-    ensures { λ r. ⌜ Only (512 + from) (512 + tri i + i) (now (work .entry)) (now (work .exit)) ⌝ }
+    ghost { Tables }
+    requires { λ t. ⌜ tables (now sizes) (now pairs) (now rows) ≡ t ⌝ }
+    requires { λ t. ⌜ Sane t ⌝ }
+    requires { λ t. ⌜ (i < boats t) × (from ≤ tri i) × (used ≤ length (now work)) ⌝ }
+    requires { λ t. ⌜ ((h : ℕ) → h < i → word (now work) (indexAt h i) ≡ indexOf t h i) ⌝ }
+    ensures { λ t r. ⌜ (r ≤ from + i) × Links t (now (work .exit)) i i 0 from r ⌝ }
+    ensures { λ _ r. ⌜ ChangedOnly (linkAt from) (indexAt i i) (now (work .entry)) (now (work .exit)) ⌝ }
 {
     let row = row_at(i);
     let mut to = from;
@@ -55,7 +62,7 @@ fn link_boat(
     while h < i {
         let index = work[row + h];
         if index != 0 {
-            work[512 + to] = (index - 1) * 64 + (h as u64);
+            work[Words::LINKS + to] = (index - 1) * 64 + (h as u64);
             to += 1;
         }
         h += 1;
@@ -65,19 +72,21 @@ fn link_boat(
 
 // For BT and CBJ: each boat's links, and where they begin.
 pub fn link_back(sizes: &[u8], pairs: &[u8], rows: &[u64], work: &mut [u64])
-    requires { ⌜ Sane (tables (now sizes) (now pairs) (now rows)) ⌝ }
-    requires { ⌜ (8192 ≤ length (now work)) × Zero 512 4096 (now work) ⌝ }
-    ensures { λ _. ⌜ Linked (tables (now (sizes .entry)) (now (pairs .entry)) (now (rows .entry))) (now (work .exit)) ⌝ }
-    ensures { λ _. ⌜ Only 192 4096 (now (work .entry)) (now (work .exit)) ⌝ }
+    ghost { Tables }
+    requires { λ t. ⌜ tables (now sizes) (now pairs) (now rows) ≡ t ⌝ }
+    requires { λ t. ⌜ Sane t ⌝ }
+    requires { λ _. ⌜ (used ≤ length (now work)) × Zero index marks (now work) ⌝ }
+    ensures { λ t _. ⌜ Linked t (now (work .exit)) ⌝ }
+    ensures { λ _ _. ⌜ ChangedOnly starts marks (now (work .entry)) (now (work .exit)) ⌝ }
 {
     index_back(sizes, pairs, rows, work);
     let n = sizes.len();
-    work[192] = 0;
+    work[Words::STARTS] = 0;
     let mut at: usize = 0;
     let mut i: usize = 0;
     while i < n {
         at = link_boat(sizes, pairs, rows, i, at, work);
-        work[193 + i] = at as u64;
+        work[Words::ENDS + i] = at as u64;
         i += 1;
     }
 }
@@ -101,22 +110,24 @@ fn pairs_end(pairs: &[u8], from: usize, boat: usize) -> usize
 
 // For looking ahead: each boat's first pair as the lower boat, and where its rows begin.
 pub fn index_ahead(sizes: &[u8], pairs: &[u8], rows: &[u64], work: &mut [u64])
-    requires { ⌜ Sane (tables (now sizes) (now pairs) (now rows)) ⌝ }
-    requires { ⌜ 8192 ≤ length (now work) ⌝ }
-    ensures { λ _. ⌜ Firsts (tables (now (sizes .entry)) (now (pairs .entry)) (now (rows .entry))) (now (work .exit)) ⌝ }
-    ensures { λ _. ⌜ Only 192 384 (now (work .entry)) (now (work .exit)) ⌝ }
+    ghost { Tables }
+    requires { λ t. ⌜ tables (now sizes) (now pairs) (now rows) ≡ t ⌝ }
+    requires { λ t. ⌜ Sane t ⌝ }
+    requires { λ _. ⌜ used ≤ length (now work) ⌝ }
+    ensures { λ t _. ⌜ Firsts t (now (work .exit)) ⌝ }
+    ensures { λ _ _. ⌜ ChangedOnly starts rowStartsEnd (now (work .entry)) (now (work .exit)) ⌝ }
 {
     let n = sizes.len();
     let mut k: usize = 0;
     let mut start: usize = 0;
     let mut i: usize = 0;
     while i < n {
-        work[192 + i] = k as u64;
-        work[320 + i] = start as u64;
+        work[Words::STARTS + i] = k as u64;
+        work[Words::ROW_STARTS + i] = start as u64;
         let next = pairs_end(pairs, k, i);
         start += (next - k) * problem::size_of(sizes, i);
         k = next;
         i += 1;
     }
-    work[192 + n] = k as u64;
+    work[Words::STARTS + n] = k as u64;
 }

@@ -43,7 +43,7 @@ fn runs() -> Vec<Run> {
             boats = problem[1].trim_matches('-').len() as u64 / 2;
         }
         if problem[0] == "r" {
-            let (asked, told) = (numbers(&problem[1..]), numbers(&reply[1..5]));
+            let (asked, told) = (numbers(&problem[1..6]), numbers(&reply[1..5]));
             let [method, checks_allowed, trials_allowed, plan_len, work_len] = asked[..] else { panic!() };
             let [answer, _, checks, trials] = told[..] else { panic!() };
             runs.push(Run {
@@ -69,6 +69,29 @@ fn the_stored_files_are_made_from_the_source() {
     let groups = groups();
     assert!(stored("stdin") == problem_lines(&groups));
     assert!(stored("stdout") == reply_lines(&groups));
+}
+
+#[test]
+fn every_name_is_there_once() {
+    let problems = stored("stdin");
+    let named: Vec<&str> = problems.lines().filter_map(|line| Some(line.split_once(" # ")?.1)).collect();
+    let names: BTreeSet<&str> = named.iter().copied().collect();
+    assert_eq!(named.len(), names.len());
+    let cited = cited();
+    assert!(cited.len() >= 10);
+    for name in cited {
+        let by_method = format!("{name}, BT");
+        assert!(names.contains(&*name) || names.contains(&*by_method), "{name}");
+    }
+}
+
+/// The names that the tables of docs/DECISIONS.md cite, in backquotes, up to the next stop in the cell.
+fn cited() -> Vec<String> {
+    let page = concat!(env!("CARGO_MANIFEST_DIR"), "/../../docs/DECISIONS.md");
+    let page = fs::read_to_string(page).expect("the page of decisions");
+    let rows = page.lines().filter(|line| line.starts_with("| ")).filter_map(|row| row.split_once("the stored problem"));
+    let told = rows.filter_map(|(_, told)| told.split([':', ';', '.', '|']).next());
+    told.flat_map(|names| names.split('`').skip(1).step_by(2)).map(str::to_string).collect()
 }
 
 #[test]

@@ -1,10 +1,12 @@
--- The b words of boat i and of the later ones, up to the first that is low enough. Assumes nothing.
+-- The b words of boat i and of the later ones, up to the first that is low enough.
 use mathlib.Core.Path.{_≡_, _∙_, subst}
-use Prim.Native.Nat.{ℕ, _+_, _-_, _≤_, _<_}
+use mathlib.Core.List.{List}
+use Prim.Native.Nat.{ℕ, _-_, _≤_, _<_}
 use borrow.Author.Needs.{needs}
 use native.Mathlib.Omega.{arith}
 use lib.ListN.{length, set, length-set}
-use Rattle.words.specs.Layout.{Only}
+use Rattle.words.specs.Places.{lowAt}
+use Rattle.words.specs.Layout.{ChangedOnly}
 use Rattle.methods.specs.BM.{lowered}
 use Rattle.marking.specs.Marks.{marksOf}
 use Rattle.marking.proofs.Lowering.{Lowering, lowering-none, lowering-set, lowering-ends, lowering-only, lowering-all}
@@ -17,19 +19,33 @@ Inv-loop n i h work₀ j₀ work j = (i < j) × (j ≤ n) × Lowering i h j work
 abbrev μ-loop : tie.MeasureT-loop
 μ-loop n i h work₀ j₀ work j = n - j
 
+-- THE PLACES: the head of the loop, and from there the function's entry, its words, and the words as they are
+abbrev Later : Type 0
+Later = tie.At-loop Inv-loop μ-loop
+
+abbrev entry : Later → tie.Start Inv-loop μ-loop
+entry l = l .before
+
+abbrev W : Later → List ℕ
+W l = entry l .args .work .now
+
+abbrev Now : Later → List ℕ
+Now l = l .loop .work
+
 -- the words are as many as at the entry
-same : (c : tie.At-loop Inv-loop μ-loop) → length (c .loop .work) ≡ length (c .before .args .work .now)
-same c = c .loop .inv .2 .only .long ∙ simp length-set
+same : (l : Later) → length (Now l) ≡ length (W l)
+same l = l .loop .inv .2 .only .long ∙ simp length-set
 
 -- all that is promised, once no later boat is left
-done : (c : tie.At-loop Inv-loop μ-loop) → let a = c .before .args in
-    Lowering (a .i) (a .h) (a .n) (set (a .work .now) (64 + a .i) (a .h)) (c .loop .work) →
-    (marksOf (c .loop .work) ≡ lowered (marksOf (a .work .now)) (a .i) (a .h)) × Only (64 + a .i) (64 + a .n) (a .work .now) (c .loop .work)
-done c y =
-    let a = c .before .args in
-    let p = c .before .pre in (
-      lowering-all (a .n) (a .i) (a .h) (a .work .now) (c .loop .work) (p .0 .0) y (p .0 .1) (omega (arith, p .0)) (p .1 .0),
-      lowering-only (a .n) (a .i) (a .h) (a .work .now) (c .loop .work) (p .0 .0) y,
+done : (l : Later) →
+    let a = entry l .args in
+    Lowering (a .i) (a .h) (a .n) (set (W l) (lowAt (a .i)) (a .h)) (Now l) →
+    (marksOf (Now l) ≡ lowered (marksOf (W l)) (a .i) (a .h)) × ChangedOnly (lowAt (a .i)) (lowAt (a .n)) (W l) (Now l)
+done l y =
+    let a = entry l .args in
+    let p = entry l .pre in (
+      lowering-all (a .n) (a .i) (a .h) (W l) (Now l) (p .0 .0) y (p .0 .1) (omega (arith, p .0)) (p .1 .0),
+      lowering-only (a .n) (a .i) (a .h) (W l) (Now l) (p .0 .0) y,
     )
 
 add-work : tie.Need-add-work Inv-loop μ-loop
@@ -54,7 +70,7 @@ mul-if1 : tie.Need-mul-if1 Inv-loop μ-loop
 mul-if1 c = search needs
 
 slice-read-if1 : tie.Need-slice-read-if1 Inv-loop μ-loop
-slice-read-if1 c = omega (arith, same (c .before .before), c .before .before .before .pre)
+slice-read-if1 c = let l = c .before .before in omega (arith, same l, entry l .pre)
 
 same-length : tie.Need-same-length Inv-loop μ-loop
 same-length c = same (c .before .before .before)
@@ -63,8 +79,8 @@ returns : tie.Need-returns Inv-loop μ-loop
 returns c =
     let l = c .before .before .before in
     let x = l .loop .inv in
-    let p = l .before .pre in
-    done l (lowering-ends _ _ _ _ (l .before .args .work .now) _ (x .0) (x .1) (p .0 .1) (p .1 .1) (x .2) (c .if1 .taken))
+    let p = entry l .pre in
+    done l (lowering-ends _ _ _ _ (W l) _ (x .0) (x .1) (p .0 .1) (p .1 .1) (x .2) (c .if1 .taken))
 
 add-work-2 : tie.Need-add-work-2 Inv-loop μ-loop
 add-work-2 c = search needs
@@ -73,7 +89,7 @@ mul-work-2 : tie.Need-mul-work-2 Inv-loop μ-loop
 mul-work-2 c = search needs
 
 slice-write-work-2 : tie.Need-slice-write-work-2 Inv-loop μ-loop
-slice-write-work-2 c = omega (arith, same (c .before .before .before), c .before .before .before .before .pre)
+slice-write-work-2 c = let l = c .before .before .before in omega (arith, same l, entry l .pre)
 
 add-j-2 : tie.Need-add-j-2 Inv-loop μ-loop
 add-j-2 c = search needs
@@ -85,7 +101,7 @@ loop-again : tie.Need-loop-again Inv-loop μ-loop
 loop-again c =
     let l = c .before .before .before in
     let x = l .loop .inv in
-    (omega arith, omega arith, lowering-set _ _ _ _ _ (x .0) (x .2) (c .if1 .left) (omega (arith, same l, l .before .pre)))
+    (omega arith, omega arith, lowering-set _ _ _ _ _ (x .0) (x .2) (c .if1 .left) (omega (arith, same l, entry l .pre)))
 
 same-length-2 : tie.Need-same-length-2 Inv-loop μ-loop
 same-length-2 c = same (c .before)
@@ -94,9 +110,9 @@ returns-2 : tie.Need-returns-2 Inv-loop μ-loop
 returns-2 c =
     let l = c .before in
     let x = l .loop .inv in
-    let a = l .before .args in
+    let a = entry l .args in
     let e : l .loop .j ≡ a .n = omega arith in
-    done l (subst (λ (j : ℕ). Lowering (a .i) (a .h) j (set (a .work .now) (64 + a .i) (a .h)) (l .loop .work)) e (x .2))
+    done l (subst (λ (j : ℕ). Lowering (a .i) (a .h) j (set (W l) (lowAt (a .i)) (a .h)) (Now l)) e (x .2))
 
 pub lower-spec : {M : Type 1} → statement M
 lower-spec =

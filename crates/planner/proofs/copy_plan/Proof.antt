@@ -1,4 +1,4 @@
--- One loop: the first k bytes are the slots, and the others are as they were. Assumes nothing.
+-- One loop: the first k bytes are the slots, and the others are as they were.
 use mathlib.Core.Path.{_≡_, refl, ap, _∙_}
 use mathlib.Core.List.{List, _++_}
 use Prim.Native.Nat.{ℕ, _+_, _-_, _≤_}

@@ -5,7 +5,7 @@ use borrow.Author.Needs.{needs}
 use lib.ListN.{length, take, drop}
 use lib.Seq.{length-take-le}
 use Rattle.problem.specs.declared.Answer.{Answer}
-use Rattle.planner.specs.Searches.{decisionOf}
+use Rattle.walk.specs.Walks.{decisionOf}
 use Rattle.planner.specs.Runs.{written}
 use Rattle.planner.proofs.write_plan.Statement.{statement}
 use Rattle.planner.proofs.write_plan.Tie as tie

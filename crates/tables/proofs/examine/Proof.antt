@@ -1,17 +1,21 @@
--- Each return gives the refusal of the first test that applies: the tests before it were passed. Assumes nothing.
+-- Each return gives the refusal of the first test that applies: the tests before it were passed.
 use mathlib.Core.Path.{sym, ap, _∙_}
 use Prim.Native.Nat.{_≤_}
 use borrow.Author.Needs.{needs}
 use borrow.Author.Tests.{ltb-true, ltb-false}
-use lib.ListN.{length}
+use Rattle.problem.specs.Tables.{Tables, tables, boats}
 use Rattle.tables.specs.declared.Examined.the-variants.{Fine}
-use Rattle.tables.specs.Replies.{tables, examinedTold}
+use Rattle.tables.specs.Replies.{examinedTold}
 use Rattle.tables.proofs.Examining.{examined-2, examined-3, examined-4, examined-5, examined-6, examined-7, examined-fine, summable, framed}
 use Rattle.tables.proofs.examine.Statement.{statement}
 use Rattle.tables.proofs.examine.Tie as tie
 
+-- the tables, seen from the first place that the code reaches
+abbrev T : tie.After-too-many-boats → Tables
+T c = let a = c .before .before .before .before .args in tables (a .sizes .now) (a .pairs .now) (a .rows .now)
+
 -- not too many boats
-few : (c : tie.Else1) → length (c .before .before .before .before .before .args .sizes .now) ≤ 64
+few : (c : tie.Else1) → boats (T (c .before)) ≤ 64
 few c = ltb-false 64 _ (sym (c .before .too-many-boats .ensures) ∙ c .if1 .left)
 
 too-many-boats-requires : tie.Need-too-many-boats-requires
@@ -53,8 +57,7 @@ start-of-requires c κs =
     let e3 = c .before .before in
     let e2 = e3 .before .before in
     let e1 = e2 .before .before in
-    let a = e1 .before .before .before .before .before .args in
-    summable (tables (a .sizes .now) (a .pairs .now) (a .rows .now)) (few e1) (e2 .before .first-bad-size .ensures) (e2 .if2 .left) (e3 .before .bad-pair-bytes .ensures) (e3 .if3 .left)
+    summable (T (e1 .before)) (few e1) (e2 .before .first-bad-size .ensures) (e2 .if2 .left) (e3 .before .bad-pair-bytes .ensures) (e3 .if3 .left)
     (c .before .first-bad-pair .ensures) (c .if4 .left)
 
 returns-5 : tie.Need-returns-5

@@ -1,8 +1,8 @@
--- A refusal of the tables is the question's too; tables that are fine are sane, and the plan is judged. Assumes nothing.
+-- A refusal of the tables is the question's too; tables that are fine are sane, and the plan is judged.
 use mathlib.Core.Path.{sym, ap, _∙_}
 use borrow.Author.Needs.{needs}
 use native.Mathlib.Omega.{arith}
-use Rattle.tables.specs.Replies.{tables, examinedTold}
+use Rattle.tables.specs.Replies.{examinedTold}
 use Rattle.tables.proofs.Fine.{fine-sane}
 use Rattle.tables.proofs.Judging.{refused-first}
 use Rattle.tables.proofs.first_broken.Statement.{statement}
@@ -17,11 +17,9 @@ enum-known-why c = search needs
 enum-told : tie.Need-enum-told
 enum-told c = search needs
 
-judge-requires : tie.Need-judge-requires
-judge-requires c κs =
-    let a = c .before .before .before .before .before .before .before .args in
-    fine-sane (tables (a .sizes .now) (a .pairs .now) (a .rows .now))
-    (ap (λ w. w .number) (sym (c .before .before .examine .ensures) ∙ ap examinedTold (c .enum-told .given .1)))
+broken-pair-requires : tie.Need-broken-pair-requires
+broken-pair-requires c κs =
+    fine-sane _ (ap (λ w. w .number) (sym (c .before .before .examine .ensures) ∙ ap examinedTold (c .enum-told .given .1)))
 
 returns : tie.Need-returns
 returns c =
@@ -29,8 +27,8 @@ returns c =
     (c .before .before .before .examine .ensures) (omega arith)
 
 returns-2 : tie.Need-returns-2
-returns-2 c = c .judge .ensures
+returns-2 c = c .broken-pair .ensures
 
 pub first-broken-spec : {M : Type 1} → statement M
 first-broken-spec =
-    tie.close (tie.spec examine-requires enum-known-why enum-told judge-requires returns returns-2)
+    tie.close (tie.spec examine-requires enum-known-why enum-told broken-pair-requires returns returns-2)

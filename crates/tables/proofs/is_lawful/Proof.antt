@@ -1,4 +1,4 @@
--- The answer is read off the first broken pair. Assumes nothing.
+-- The answer is read off the first broken pair.
 use mathlib.Core.Path.{ap}
 use mathlib.Core.Bool.{true, false}
 use borrow.Author.Needs.{needs}

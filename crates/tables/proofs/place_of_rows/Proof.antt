@@ -1,10 +1,11 @@
--- The examination says whether the tables are fine, and the place of the pair whether it is listed. Assumes nothing.
+-- The examination says whether the tables are fine, and the place of the pair whether it is listed.
 use mathlib.Core.Path.{_≡_, sym, ap, _∙_}
 use borrow.Author.Needs.{needs}
 use native.Mathlib.Omega.{arith}
+use Rattle.problem.specs.Tables.{Tables, tables}
 use Rattle.tables.specs.declared.Examined.the-variants.{Fine}
 use Rattle.tables.specs.Examination.{examination}
-use Rattle.tables.specs.Replies.{tables, examinedTold}
+use Rattle.tables.specs.Replies.{examinedTold}
 use Rattle.tables.proofs.Fine.{fine-sane}
 use Rattle.tables.proofs.Shown.{shown-refused, shown-unlisted, shown-summable, shown-named, shown-listed}
 use Rattle.tables.proofs.place_of_rows.Statement.{statement}
@@ -19,16 +20,16 @@ enum-told c = search needs
 enum-known-p : tie.Need-enum-known-p
 enum-known-p c = search needs
 
+-- the tables, seen from the first place that the code reaches
+abbrev T : tie.After-examine → Tables
+T c = let a = c .before .before .before .before .args in tables (a .sizes .now) (a .pairs .now) (a .rows .now)
+
 -- what the examination says of tables that are fine
-fine : (c : tie.After-p)
-    → let a = c .before .before .before .before .before .before .args in
-    examinedTold (Fine (c .p .given .0 .0)) ≡ examination (tables (a .sizes .now) (a .pairs .now) (a .rows .now))
+fine : (c : tie.After-p) → examinedTold (Fine (c .p .given .0 .0)) ≡ examination (T (c .before .before))
 fine c = sym (ap examinedTold (c .p .given .1)) ∙ c .before .before .examine .ensures
 
 place-of-requires : tie.Need-place-of-requires
-place-of-requires c κs =
-    let a = c .before .before .before .before .before .before .before .args in
-    fine-sane (tables (a .sizes .now) (a .pairs .now) (a .rows .now)) (ap (λ w. w .number) (sym (fine (c .before)))) .rising
+place-of-requires c κs = fine-sane _ (ap (λ w. w .number) (sym (fine (c .before)))) .rising
 
 start-of-requires : tie.Need-start-of-requires
 start-of-requires c κs =

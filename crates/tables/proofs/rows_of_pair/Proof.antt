@@ -1,9 +1,8 @@
--- The part that is shown is within the rows. Assumes nothing.
-use mathlib.Core.Path.{ap}
-use Prim.Native.Nat.{_-_, _≤_}
+-- The part that is shown is within the rows.
+use Prim.Native.Nat.{_≤_}
 use borrow.Author.Needs.{needs}
 use native.Mathlib.Omega.{arith}
-use lib.ListN.{length, take, drop}
+use lib.ListN.{length}
 use Rattle.tables.proofs.Shown.{shown-inside}
 use Rattle.tables.proofs.rows_of_pair.Statement.{statement}
 use Rattle.tables.proofs.rows_of_pair.Tie as tie
@@ -14,8 +13,7 @@ place-of-rows-requires c κs = search needs
 inside : (c : tie.After-place-of-rows)
     → let p = c .place-of-rows .result in
     (p .from ≤ p .to) × (p .to ≤ length (c .before .before .before .before .args .rows .now))
-inside c =
-    rw (c .place-of-rows .ensures) (shown-inside _ _ _)
+inside c = rw (c .place-of-rows .ensures) (shown-inside _ _ _)
 
 mul-result : tie.Need-mul-result
 mul-result c = omega (arith, inside c)
@@ -30,7 +28,7 @@ part-result-end : tie.Need-part-result-end
 part-result-end c = inside c .1
 
 returns : tie.Need-returns
-returns c = ap (λ p. take (p .to - p .from) (drop (p .from) (c .before .before .before .before .before .args .rows .now))) (c .before .place-of-rows .ensures)
+returns c = rw (c .before .place-of-rows .ensures)
 
 pub rows-of-pair-spec : {M : Type 1} → statement M
 rows-of-pair-spec =

@@ -1,5 +1,6 @@
 //! Tables with chosen faults: every set of numbers 2 to 7 at once, and each kind of fault alone.
 
+use super::by_hand::all_pairs;
 use crate::tables::Tables;
 
 /// Four boats, where each of the numbers 2 to 7 can be brought about without another.
@@ -54,12 +55,7 @@ fn sizes() -> Vec<Tables> {
 fn pair_bytes() -> Vec<Tables> {
     let lists = [vec![0], vec![0, 1, 0]];
     let mut all: Vec<Tables> = lists.into_iter().map(|pairs| Tables { pairs, ..sound() }).collect();
-    let mut most = Tables { sizes: vec![1; 64], ..Tables::default() };
-    for lower in 0..64 {
-        for higher in lower + 1..64 {
-            most.pairs.extend([lower, higher]);
-        }
-    }
+    let mut most = Tables { sizes: vec![1; 64], pairs: all_pairs(), ..Tables::default() };
     most.pairs.extend([62, 63]);
     most.rows = vec![1; most.pairs.len() / 2];
     all.push(most);

@@ -11,32 +11,42 @@ use crate::tables::{Tables, WORKING_WORDS};
 
 pub fn problem_lines(groups: &[Group]) -> String {
     let mut text = String::new();
-    for Group { tables, questions } in groups {
+    for Group { name, tables, named, questions } in groups {
         let Tables { sizes, pairs, rows } = tables;
-        text += &format!("t {} {} {}\n", hex(sizes), hex(pairs), hex_words(rows));
+        text += &line(&format!("t {} {} {}", hex(sizes), hex(pairs), hex_words(rows)), name);
+        for (name, question) in named {
+            text += &line(&asked(question), name);
+        }
         for question in questions {
-            text += &question_line(question);
+            text += &line(&asked(question), "");
         }
     }
     text
 }
 
-fn question_line(question: &Question) -> String {
+fn line(asked: &str, name: &str) -> String {
+    match name {
+        "" => format!("{asked}\n"),
+        _ => format!("{asked} # {name}\n"),
+    }
+}
+
+fn asked(question: &Question) -> String {
     match question {
         Question::Run(terms) => {
             let Terms { method, checks_allowed, trials_allowed, plan_len, work_len } = terms;
-            format!("r {method} {checks_allowed} {trials_allowed} {plan_len} {work_len}\n")
+            format!("r {method} {checks_allowed} {trials_allowed} {plan_len} {work_len}")
         }
-        Question::Plan(plan) => format!("p {}\n", hex(plan)),
-        Question::Rows(lower, higher) => format!("s {lower} {higher}\n"),
+        Question::Plan(plan) => format!("p {}", hex(plan)),
+        Question::Rows(lower, higher) => format!("s {lower} {higher}"),
     }
 }
 
 pub fn reply_lines(groups: &[Group]) -> String {
     let mut text = String::new();
-    for Group { tables, questions } in groups {
+    for Group { tables, named, questions, .. } in groups {
         text += &format!("t {}\n", told(examine(tables).map(|()| (0, 0))));
-        for question in questions {
+        for question in named.iter().map(|(_, question)| question).chain(questions) {
             text += &match question {
                 Question::Run(terms) => run_reply(tables, terms),
                 Question::Plan(plan) => plan_reply(tables, plan),

@@ -7,6 +7,8 @@
 //!   p PLAN                                    is this plan lawful, and which pair does it break first
 //!   s LOWER HIGHER                            show the rows of a pair
 //!
+//! After ' # ' a line may end in its name; what was worked out by hand has one. No name is answered.
+//!
 //! second vectors replies     its output, one line for each of those:
 //!
 //!   t ANSWER PLACE                            the examination: 0 fine, 100 + number refused
@@ -15,10 +17,13 @@
 //!   s FROM TO WORDS                           where the rows stand, and what is shown
 //!
 //! Numbers are decimal; bytes, words, '-', and a run's first five fields are as main.rs describes.
+//! The program under test writes another PLACE than 0 for fine tables where the problem's own numbers,
+//! which the examination hands out, are not those of the tables; and as PLAN the bytes that changed.
 //! BYTES_CHANGED is the place after the last changed byte of the plan memory, WORDS_CHANGED that of
 //! the working words, and NOT_ZERO counts the words before it that are not 0.
 //! `second fresh` writes lines of the same two forms, about tables from any seed.
 
+mod by_hand;
 mod faults;
 mod fresh;
 mod lines;
@@ -34,9 +39,15 @@ pub use sets::groups;
 
 /// Tables, and all that is asked of them.
 pub struct Group {
+    /// Empty where the tables have no name.
+    pub name: String,
     pub tables: Tables,
+    pub named: Vec<Named>,
     pub questions: Vec<Question>,
 }
+
+/// A question that was worked out by hand, after its name.
+pub type Named = (String, Question);
 
 pub enum Question {
     Run(Terms),

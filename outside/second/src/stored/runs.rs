@@ -1,5 +1,7 @@
 //! Which runs are asked for: methods, allowances, and lengths of the lent memory.
 
+use std::collections::BTreeSet;
+
 use super::lines::reply_to;
 use super::{Question, Terms};
 use crate::allowances::allowances;
@@ -25,6 +27,7 @@ fn enough(random: &mut Random, tables: &Tables) -> (usize, usize) {
 /// may run out.
 pub fn every_cut(random: &mut Random, tables: &Tables) -> Vec<Question> {
     let exact: Vec<(u64, u64)> = (1..=5).map(|method| exact(method, tables)).collect();
+    let each: BTreeSet<(u64, u64)> = exact.iter().copied().collect();
     let mut questions = Vec::new();
     for method in 1..=5 {
         let (checks, trials) = exact[method as usize - 1];
@@ -32,7 +35,7 @@ pub fn every_cut(random: &mut Random, tables: &Tables) -> Vec<Question> {
         list.extend((0..checks).map(|allowed| (allowed, AMPLE)));
         list.extend((0..trials).map(|allowed| (AMPLE, allowed)));
         list.extend((0..checks.max(trials)).map(|allowed| (allowed, allowed)));
-        list.extend(&exact);
+        list.extend(&each);
         questions.extend(list.into_iter().map(|allowed| run(method, allowed, enough(random, tables))));
     }
     questions

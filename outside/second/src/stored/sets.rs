@@ -1,12 +1,12 @@
 //! Which tables are in the stored set; the seeds stand here, so that the set is always the same.
 
-use super::{faults, plans, runs, Group, Question};
+use super::{by_hand, faults, plans, runs, Group, Question};
 use crate::examine::examine;
 use crate::random::Random;
 use crate::shapes::random_tables;
 use crate::spoil::spoiled;
 use crate::tables::Tables;
-use crate::vectors::{further_cases, harbour_cases};
+use crate::vectors::{further_cases, harbour_cases, Case};
 
 /// Checks and trials beyond which a run isn't followed.
 const CAP: u64 = 100_000;
@@ -32,6 +32,7 @@ const FINDINGS: [u64; 7] = [0, 2, 3, 4, 5, 6, 7];
 
 pub fn groups() -> Vec<Group> {
     let mut groups = cases();
+    groups.extend(by_hand::groups());
     for (kind, seed, count) in KINDS {
         groups.extend(of_kind(kind, seed, count));
     }
@@ -48,7 +49,11 @@ fn cases() -> Vec<Group> {
         questions
     };
     let cases = harbour_cases().into_iter().chain(further_cases());
-    cases.map(|case| group(&mut random, case.tables, asked)).collect()
+    let of_case = |case: Case| {
+        let (name, named) = (case.name.to_string(), by_hand::of_case(case.name));
+        Group { name, named, ..group(&mut random, case.tables, asked) }
+    };
+    cases.map(of_case).collect()
 }
 
 pub(super) fn of_kind(kind: &str, seed: u64, count: usize) -> Vec<Group> {
@@ -99,5 +104,5 @@ fn group(
     let mut questions = asked(random, &tables);
     questions.extend(plans::plans(random, &tables, CAP));
     questions.extend(plans::rows(random, &tables));
-    Group { tables, questions }
+    Group { name: String::new(), tables, named: Vec::new(), questions }
 }

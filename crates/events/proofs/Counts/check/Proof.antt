@@ -1,4 +1,4 @@
--- A check is counted while the checks made are below their allowance. Assumes nothing.
+-- A check is counted while the checks made are below their allowance.
 use borrow.Author.Needs.{needs}
 use borrow.Author.Tests.{lt-ltb, le-ltb}
 use Rattle.events.proofs.Counts.check.Statement.{statement}

@@ -1,4 +1,4 @@
--- So many checks are counted at once where the allowance leaves as many. Assumes nothing.
+-- So many checks are counted at once where the allowance leaves as many.
 use borrow.Author.Needs.{needs}
 use borrow.Author.Tests.{le-leb, lt-leb}
 use Rattle.events.proofs.Counts.check_each.Statement.{statement}

@@ -1,4 +1,4 @@
--- A trial is counted while the trials made are below their allowance. Assumes nothing.
+-- A trial is counted while the trials made are below their allowance.
 use borrow.Author.Needs.{needs}
 use borrow.Author.Tests.{lt-ltb, le-ltb}
 use Rattle.events.proofs.Counts.trial.Statement.{statement}

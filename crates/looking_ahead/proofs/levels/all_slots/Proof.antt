@@ -1,4 +1,4 @@
--- So many ones. Assumes nothing.
+-- So many ones.
 use mathlib.Core.Path.{ap}
 use Prim.Native.Nat.{ℕ, _-_, _<_}
 use borrow.Author.Needs.{needs}

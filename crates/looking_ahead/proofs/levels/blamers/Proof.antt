@@ -1,4 +1,4 @@
--- The set has the boats passed at whose level a slot was lost; each level's word is read once. Assumes nothing.
+-- The set has the boats passed at whose level a slot was lost; each level's word is read once.
 use mathlib.Core.Path.{_≡_, sym, ap, _∙_}
 use mathlib.Core.Logic.{⊎-elim}
 use Prim.Native.Nat.{_-_, _≤_}
@@ -11,10 +11,10 @@ use Rattle.looking_ahead.proofs.levels.blamers.Statement.{statement}
 use Rattle.looking_ahead.proofs.levels.blamers.Tie as tie
 
 abbrev Inv-loop : tie.InvT-loop
-Inv-loop work i j set₀ before₀ g₀ set before g = (g ≤ i) × LostAt work g j set × (before ≡ liveAt work g j)
+Inv-loop i j work set₀ before₀ g₀ set before g = (g ≤ i) × LostAt work g j set × (before ≡ liveAt work g j)
 
 abbrev μ-loop : tie.MeasureT-loop
-μ-loop work i j set₀ before₀ g₀ set before g = i - g
+μ-loop i j work set₀ before₀ g₀ set before g = i - g
 
 add-before : tie.Need-add-before Inv-loop μ-loop
 add-before c = search needs

@@ -1,17 +1,17 @@
--- The boats passed have their words of level i in level i + 1, and no other word has changed. Assumes nothing.
+-- The boats passed have their words of level i in level i + 1, and no other word has changed.
 use mathlib.Core.Path.{_≡_, ap, _∙_}
 use Prim.Native.Nat.{ℕ, suc, _+_, _-_, _*_, _≤_, _<_}
 use borrow.Author.Needs.{needs}
 use native.Mathlib.Omega.{arith}
-use Rattle.words.specs.Layout.{word, Only}
-use Rattle.words.proofs.Only.{only-refl, only-trans, only-set, only-below}
+use Rattle.words.specs.Layout.{word, ChangedOnly}
+use Rattle.words.proofs.ChangedOnly.{only-refl, only-trans, only-set, only-below}
 use Rattle.looking_ahead.proofs.Loops.{written-more}
 use Rattle.looking_ahead.proofs.levels.copy_level.Statement.{statement}
 use Rattle.looking_ahead.proofs.levels.copy_level.Tie as tie
 
 abbrev Inv-loop : tie.InvT-loop
 Inv-loop n i work₀ j₀ work j =
-    (i < j) × Only (4160 + 64 * i) 8192 work₀ work × ((k : ℕ) → suc i ≤ k → k < j → word work (4160 + 64 * i + k) ≡ word work₀ (4096 + 64 * i + k))
+    (i < j) × ChangedOnly (4160 + 64 * i) 8192 work₀ work × ((k : ℕ) → suc i ≤ k → k < j → word work (4160 + 64 * i + k) ≡ word work₀ (4096 + 64 * i + k))
 
 abbrev μ-loop : tie.MeasureT-loop
 μ-loop n i work₀ j₀ work j = n - j

@@ -1,22 +1,26 @@
--- The boats passed have all their slots, and no word outside level 0 has changed. Assumes nothing.
+-- The boats passed have all their slots, and no word outside level 0 has changed.
 use mathlib.Core.Path.{_≡_, ap, _∙_}
 use Prim.Native.Nat.{ℕ, _+_, _-_, _^_, _≤_, _<_}
 use borrow.Author.Needs.{needs}
 use native.Mathlib.Omega.{arith}
 use lib.ListN.{length}
 use Rattle.problem.specs.Tables.{size}
-use Rattle.words.specs.Layout.{tables, word, Only}
-use Rattle.words.proofs.Only.{only-refl, only-trans, only-set}
+use Rattle.words.specs.Layout.{word, ChangedOnly}
+use Rattle.words.proofs.ChangedOnly.{only-refl, only-trans, only-set}
 use Rattle.looking_ahead.proofs.Loops.{written-more, all-live}
 use Rattle.looking_ahead.proofs.levels.fill_level.Statement.{statement}
 use Rattle.looking_ahead.proofs.levels.fill_level.Tie as tie
 
 abbrev Inv-loop : tie.InvT-loop
 Inv-loop sizes pairs rows work₀ j₀ work j =
-    (j ≤ length sizes) × Only 4096 4160 work₀ work × ((k : ℕ) → 0 ≤ k → k < j → word work (4096 + k) ≡ 2 ^ size sizes k - 1)
+    (j ≤ length sizes) × ChangedOnly 4096 4160 work₀ work × ((k : ℕ) → 0 ≤ k → k < j → word work (4096 + k) ≡ 2 ^ size sizes k - 1)
 
 abbrev μ-loop : tie.MeasureT-loop
 μ-loop sizes pairs rows work₀ j₀ work j = length sizes - j
+
+-- the function's entry, seen from the head of the loop
+abbrev entry : tie.At-loop Inv-loop μ-loop → tie.Start Inv-loop μ-loop
+entry l = l .before .before .before .before .before
 
 loop-holds : tie.Need-loop-holds Inv-loop μ-loop
 loop-holds c = (omega arith, only-refl 4096 4160 _, λ k lo hi. absurd (omega arith))
@@ -26,8 +30,8 @@ size-of-requires c κs = search needs
 
 all-slots-requires : tie.Need-all-slots-requires Inv-loop μ-loop
 all-slots-requires c κs =
-    let s = c .before .before .before .before .before .before .before in
-    omega (arith, s .pre .0 .fewSlots (c .before .before .loop .j) (c .before .loop-test .taken), c .size-of .ensures .0)
+    let l = c .before .before in
+    omega (arith, entry l .pre .0 .fewSlots (l .loop .j) (c .before .loop-test .taken), c .size-of .ensures .0)
 
 add-work : tie.Need-add-work Inv-loop μ-loop
 add-work c = search needs
@@ -46,7 +50,7 @@ loop-less c = search needs
 
 loop-again : tie.Need-loop-again Inv-loop μ-loop
 loop-again c =
-    let s = c .before .before .before .before .before .before .before .before in
+    let s = entry (c .before .before .before) in
     let l = c .before .before .before .loop in
     let few : l .j < 64 = omega (arith, s .pre .0 .fewBoats, c .before .before .loop-test .taken) in (
       omega arith,
@@ -60,9 +64,8 @@ same-length c = c .before .loop .inv .1 .long
 
 returns : tie.Need-returns Inv-loop μ-loop
 returns c =
-    let s = c .before .before .before .before .before .before in
     let l = c .before .loop in
-    (all-live (tables (s .args .sizes .now) (s .args .pairs .now) (s .args .rows .now)) (l .work) (λ k lo hi. l .inv .2 k lo (omega arith)), l .inv .1)
+    (all-live _ (l .work) (λ k lo hi. l .inv .2 k lo (omega arith)), l .inv .1)
 
 pub fill-level-spec : {M : Type 1} → statement M
 fill-level-spec =

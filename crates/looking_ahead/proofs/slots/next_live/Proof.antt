@@ -1,4 +1,4 @@
--- The slots passed over are digits below the lowest that is set. Assumes nothing.
+-- The slots passed over are digits below the lowest that is set.
 use Prim.Native.Nat.{_/_, _^_, _≤_}
 use borrow.Author.Needs.{needs}
 use native.Mathlib.Omega.{arith}

@@ -1,12 +1,13 @@
--- Before each pair the boats below the next one are gone over; a turn makes the checks of one listed boat. Assumes nothing.
+-- Before each pair the boats below the next one are gone over; a turn makes the checks of one listed boat.
 use mathlib.Core.Path.{sym, _∙_}
 use Prim.Native.Nat.{_+_, _-_, _*_}
 use native.Mathlib.Omega.{arith}
 use borrow.Author.Needs.{needs}
 use lib.Count.{ones-le}
-use Rattle.problem.specs.Tables.{Tables}
-use Rattle.words.specs.Layout.{tables, liveAt}
-use Rattle.looking_ahead.proofs.Along.{Given, Along, end-word, row-word, begins, ends}
+use Rattle.problem.specs.Tables.{Tables, tables}
+use Rattle.words.specs.Layout.{liveAt}
+use Rattle.looking_ahead.specs.Kept.{Sweepable}
+use Rattle.looking_ahead.proofs.Along.{Along, end-word, row-word, begins, ends}
 use Rattle.looking_ahead.proofs.Pairs.{pair-listed}
 use Rattle.looking_ahead.proofs.Turns.{Turn, is-pair, small, runs-out, in-rows, in-words, still-copied, still-only, empties, goes-on}
 use Rattle.looking_ahead.proofs.sweep.sweep.Statement.{statement}
@@ -19,32 +20,35 @@ Inv-loop sizes pairs rows i slot work₀ size end pair₀ at₀ counts₀ work p
 abbrev μ-loop : tie.MeasureT-loop
 μ-loop sizes pairs rows i slot work₀ size end pair₀ at₀ counts₀ work pair at counts = end - pair
 
+-- THE PLACES: the function's entry, seen from the first place that the code reaches, and its tables
+abbrev entry : tie.After-size-of Inv-loop μ-loop → tie.Start Inv-loop μ-loop
+entry c = c .before .before .before .before .before
+
 abbrev T : tie.Start Inv-loop μ-loop → Tables
 T s = tables (s .args .sizes .now) (s .args .pairs .now) (s .args .rows .now)
 
-given : (s : tie.Start Inv-loop μ-loop) → Given (T s) (s .args .work .now) (s .args .i) (s .args .slot)
-given s =
-    record {
-      sane = s .pre .0;
-      boat = s .pre .1 .0 .0;
-      slot = s .pre .1 .0 .1;
-      long = s .pre .1 .0 .2;
-      firsts = s .pre .1 .1 .0 .0;
-      lives = s .pre .1 .1 .0 .1;
-    }
+-- the boat's size and the entry, seen from the head of the loop; and that head, seen from where a live word has been read
+abbrev sized : tie.At-loop Inv-loop μ-loop → tie.After-size-of Inv-loop μ-loop
+sized l = l .before .before .before .before
 
-abbrev entry : tie.At-loop Inv-loop μ-loop → tie.Start Inv-loop μ-loop
-entry l = l .before .before .before .before .before .before .before .before .before
+abbrev S : tie.At-loop Inv-loop μ-loop → tie.Start Inv-loop μ-loop
+S l = entry (sized l)
+
+abbrev head : tie.After-slice-known5 Inv-loop μ-loop → tie.At-loop Inv-loop μ-loop
+head c = c .before .before .before
+
+given : (s : tie.Start Inv-loop μ-loop) → Sweepable (T s) (s .args .work .now) (s .args .i) (s .args .slot)
+given s = s .pre .0
 
 turn : (c : tie.After-slice-known5 Inv-loop μ-loop) →
-    Turn (T (entry (c .before .before .before))) (entry (c .before .before .before) .args .work .now) (entry (c .before .before .before) .args .i)
-    (entry (c .before .before .before) .args .slot) (entry (c .before .before .before) .args .start) (c .before .before .before .loop .work)
-    (c .before .before .before .loop .pair) (c .before .before .before .loop .at) (c .before .before .before .loop .counts) (c .before .higher-of .result)
+    let l = head c .loop in
+    let s = S (head c) in
+    Turn (T s) (s .args .work .now) (s .args .i) (s .args .slot) (s .args .start) (l .work) (l .pair) (l .at) (l .counts) (c .before .higher-of .result)
 turn c =
-    let s = entry (c .before .before .before) in
+    let s = S (head c) in
     record {
       given = given s;
-      along = c .before .before .before .loop .inv;
+      along = head c .loop .inv;
       more = rw (end-word (given s)) at (c .before .before .loop-test .taken);
       boat = c .before .higher-of .ensures .0;
       fits = c .slice-known5 .given (4096 + 64 * s .args .i + c .before .higher-of .result) .fits;
@@ -82,17 +86,17 @@ slice-read-at c = search needs
 
 add-at-2 : tie.Need-add-at-2 Inv-loop μ-loop
 add-at-2 c =
-    let s = c .before .before .before .before .before .before .before .before in
-    omega (arith, row-word (given s), s .good .1 .1 .0, given s .slot, given s .sane .fewSlots (s .args .i) (given s .boat))
+    let s = entry (c .before .before .before) in
+    omega (arith, row-word (given s), s .good, given s .slot, given s .sane .fewSlots (s .args .i) (given s .boat))
 
 loop-holds : tie.Need-loop-holds Inv-loop μ-loop
 loop-holds c =
-    let s = c .before .before .before .before .before .before .before .before in
-    begins (given s) (s .args .start) (s .pre .1 .1 .0 .2) (s .pre .1 .1 .1)
+    let s = entry (c .before .before .before) in
+    begins (given s) (s .args .start) (s .pre .0 .copied) (s .pre .1)
 
 higher-of-requires : tie.Need-higher-of-requires Inv-loop μ-loop
 higher-of-requires c κs =
-    let s = entry (c .before) in
+    let s = S (c .before) in
     pair-listed (s .args .pairs .now) (given s .sane .rising) (s .args .i) (c .before .loop .pair) (c .before .loop .inv .from)
     (rw (end-word (given s)) at (c .loop-test .taken))
 
@@ -113,11 +117,11 @@ slice-read-live c = omega (arith, in-words (turn c))
 
 cast-check-each : tie.Need-cast-check-each Inv-loop μ-loop
 cast-check-each c =
-    let l = c .before .before .before in
-    omega (arith, ones-le 64 (liveAt (l .loop .work) (entry l .args .i) (c .before .higher-of .result)) (turn c .fits))
+    let l = head c in
+    omega (arith, ones-le 64 (liveAt (l .loop .work) (S l .args .i) (c .before .higher-of .result)) (turn c .fits))
 
 check-each-requires : tie.Need-check-each-requires Inv-loop μ-loop
-check-each-requires c κs = c .before .before .before .loop .inv .fits .checksFit
+check-each-requires c κs = head c .loop .inv .fits .checksFit
 
 enum-known-k : tie.Need-enum-known-k Inv-loop μ-loop
 enum-known-k c = search needs
@@ -126,18 +130,18 @@ enum-known-k-2 : tie.Need-enum-known-k-2 Inv-loop μ-loop
 enum-known-k-2 c = search needs
 
 same-length : tie.Need-same-length Inv-loop μ-loop
-same-length c = c .before .before .before .before .before .before .before .loop .inv .only .long
+same-length c = head (c .before .before .before .before) .loop .inv .only .long
 
 returns : tie.Need-returns Inv-loop μ-loop
 returns c =
     let f = c .before .before .before .before in
-    let l = f .before .before .before .loop in
+    let l = head f .loop in
     (runs-out (turn f) (c .before .k2 .given .0 .0) (sym (c .before .before .before .check-each .ensures) ∙ c .before .k2 .given .1), (l .inv .copied, l .inv .only))
 
 mul-stays : tie.Need-mul-stays Inv-loop μ-loop
 mul-stays c =
     let f = c .before .before .before .before in
-    omega (arith, in-rows (turn f), entry (f .before .before .before) .good .1 .1 .0)
+    omega (arith, in-rows (turn f), S (head f) .good)
 
 shared-slice-read-stays : tie.Need-shared-slice-read-stays Inv-loop μ-loop
 shared-slice-read-stays c = in-rows (turn (c .before .before .before .before .before))
@@ -171,8 +175,8 @@ returns-2 c =
 add-at-3 : tie.Need-add-at-3 Inv-loop μ-loop
 add-at-3 c =
     let f = c .before .before .before .before .before .before in
-    let s = entry (f .before .before .before) in
-    omega (arith, in-rows (turn f), s .good .1 .1 .0, f .before .before .before .before .before .before .before .size-of .ensures .1)
+    let l = head f in
+    omega (arith, in-rows (turn f), S l .good, sized l .size-of .ensures .1)
 
 add-pair-2 : tie.Need-add-pair-2 Inv-loop μ-loop
 add-pair-2 c =
@@ -185,7 +189,7 @@ loop-less c = search needs
 loop-again : tie.Need-loop-again Inv-loop μ-loop
 loop-again c =
     let e = c .before .before .before .before .before in
-    let z = e .before .before .before .before .before .before .before .before .size-of in
+    let z = sized (head (e .before)) .size-of in
     goes-on (turn (e .before)) (c .before .before .before .k .given .0 .0) (sym (e .check-each .ensures) ∙ c .before .before .before .k .given .1) (z .result)
     (z .ensures .0) (c .if1 .left)
 
@@ -194,7 +198,7 @@ same-length-3 c = c .before .loop .inv .only .long
 
 returns-3 : tie.Need-returns-3 Inv-loop μ-loop
 returns-3 c =
-    let s = entry (c .before) in
+    let s = S (c .before) in
     let l = c .before .loop in (
       ends (given s) (l .inv) (rw (end-word (given s)) at (c .loop-test .left)),
       (l .inv .copied, l .inv .only),

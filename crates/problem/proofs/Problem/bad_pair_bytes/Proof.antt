@@ -1,4 +1,4 @@
--- The code's two tests are the two halves of the cause. Assumes nothing.
+-- The code's two tests are the two halves of the cause.
 use borrow.Author.Needs.{needs}
 use borrow.Author.Tests.{eq-eqb, ne-eqb}
 use Rattle.problem.proofs.Problem.bad_pair_bytes.Statement.{statement}

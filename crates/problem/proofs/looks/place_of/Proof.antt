@@ -1,4 +1,4 @@
--- Every pair passed is not the one looked for. Assumes nothing.
+-- Every pair passed is not the one looked for.
 use mathlib.Core.Path.{_≡_, sym, _∙_}
 use mathlib.Core.Bool.{false}
 use mathlib.Core.Logic.{⊎-elim}

@@ -1,4 +1,4 @@
--- The words counted are those of the pairs passed. Assumes nothing.
+-- The words counted are those of the pairs passed.
 use mathlib.Core.Path.{_≡_, sym, ap, _∙_}
 use Prim.Native.Nat.{_-_, _*_, _≤_}
 use borrow.Author.Needs.{needs}

@@ -1,4 +1,4 @@
--- Every boat passed has a slot below its size. Assumes nothing.
+-- Every boat passed has a slot below its size.
 use mathlib.Core.Path.{_≡_, sym, _∙_}
 use mathlib.Core.Bool.{false}
 use Prim.Native.Nat.{ℕ, _-_, _≤_, _<_}

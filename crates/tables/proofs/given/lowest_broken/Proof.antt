@@ -1,4 +1,4 @@
--- Every pair passed is kept, and the rows of the pair at hand begin at the word at hand. Assumes nothing.
+-- Every pair passed is kept, and the rows of the pair at hand begin at the word at hand.
 use mathlib.Core.Path.{_≡_, sym, ap, _∙_}
 use mathlib.Core.Bool.{not, false}
 use Prim.Native.Nat.{ℕ, _+_, _-_, _≤_, _<_}
@@ -6,12 +6,11 @@ use borrow.Author.Count.{below-more}
 use borrow.Author.Needs.{needs}
 use native.Mathlib.Omega.{arith}
 use lib.ListN.{length}
-use Rattle.problem.specs.Tables.{listed, start}
+use Rattle.problem.specs.Tables.{tables, listed, start}
 use Rattle.problem.specs.Plans.{keeps}
 use Rattle.problem.proofs.Lowest.{lowest-here, lowest-none}
 use Rattle.problem.proofs.Starts.{start-zero}
 use Rattle.tables.specs.Questions.{broken}
-use Rattle.tables.specs.Replies.{tables}
 use Rattle.tables.proofs.Keeping.{low-named, high-named, row-inside, slot-small, keeps-is, next-row, next-inside}
 use Rattle.tables.proofs.given.lowest_broken.Statement.{statement}
 use Rattle.tables.proofs.given.lowest_broken.Tie as tie
@@ -25,26 +24,29 @@ Inv-loop sizes pairs rows plan count start₀ k₀ start k =
 abbrev μ-loop : tie.MeasureT-loop
 μ-loop sizes pairs rows plan count start₀ k₀ start k = listed pairs - k
 
+-- THE PLACES: the head of the loop and the function's entry, seen from where a pair's lower boat is known
+abbrev head : tie.After-lower-of Inv-loop μ-loop → tie.At-loop Inv-loop μ-loop
+head d = d .before .before
+
+abbrev entry : tie.After-lower-of Inv-loop μ-loop → tie.Start Inv-loop μ-loop
+entry d = head d .before .before .before .before .before
+
 loop-holds : tie.Need-loop-holds Inv-loop μ-loop
 loop-holds c = (omega arith, sym (start-zero _ _), λ j l. absurd (omega arith))
 
 lower-of-requires : tie.Need-lower-of-requires Inv-loop μ-loop
 lower-of-requires c κs = search needs
 
-lower-named : (c : tie.After-lower-of Inv-loop μ-loop) → c .lower-of .result < length (c .before .before .before .before .before .before .before .args .sizes .now)
-lower-named c =
-    let b = c .before .before .before .before .before .before .before in
-    low-named (b .pre .0) (b .pre .1) (c .before .loop-test .taken) (c .lower-of .ensures .0)
+lower-named : (c : tie.After-lower-of Inv-loop μ-loop) → c .lower-of .result < length (entry c .args .sizes .now)
+lower-named c = low-named (entry c .pre .0) (entry c .pre .1) (c .before .loop-test .taken) (c .lower-of .ensures .0)
 
 size-of-requires : tie.Need-size-of-requires Inv-loop μ-loop
-size-of-requires c κs = omega (arith, lower-named c, c .before .before .before .before .before .before .before .pre .1 .complete)
+size-of-requires c κs = omega (arith, lower-named c, entry c .pre .1 .complete)
 
-row-here : (c : tie.After-size-of Inv-loop μ-loop)
-    → c .before .before .before .loop .start + c .size-of .result < length (c .before .before .before .before .before .before .before .before .args .rows .now)
+row-here : (c : tie.After-size-of Inv-loop μ-loop) → let d = c .before in head d .loop .start + c .size-of .result < length (entry d .args .rows .now)
 row-here c =
-    let b = c .before .before .before .before .before .before .before .before in
-    row-inside (b .pre .0) (b .pre .1) (c .before .before .loop-test .taken) (c .before .before .before .loop .inv .1) (c .before .lower-of .ensures .0)
-    (c .size-of .ensures .0)
+    let d = c .before in
+    row-inside (entry d .pre .0) (entry d .pre .1) (d .before .loop-test .taken) (head d .loop .inv .1) (d .lower-of .ensures .0) (c .size-of .ensures .0)
 
 add-row : tie.Need-add-row Inv-loop μ-loop
 add-row c = omega (arith, row-here c)
@@ -60,25 +62,26 @@ higher-of-requires c κs = search needs
 
 size-of-requires-2 : tie.Need-size-of-requires-2 Inv-loop μ-loop
 size-of-requires-2 c κs =
-    let b = c .before .before .before .before .before .before .before .before .before .before in
-    omega (arith, high-named (b .pre .0) (b .pre .1) (c .before .before .before .before .loop-test .taken) (c .higher-of .ensures .0), b .pre .1 .complete)
+    let d = c .before .before .before in
+    omega (arith, high-named (entry d .pre .0) (entry d .pre .1) (d .before .loop-test .taken) (c .higher-of .ensures .0), entry d .pre .1 .complete)
 
 bit-requires : tie.Need-bit-requires Inv-loop μ-loop
 bit-requires c κs =
-    let b = c .before .before .before .before .before .before .before .before .before .before .before in
-    slot-small (b .pre .0) (b .pre .1) (c .before .before .before .before .before .loop-test .taken) (c .before .higher-of .ensures .0)
-    (c .size-of2 .ensures .0)
+    let h = c .before in
+    let d = h .before .before .before in
+    slot-small (entry d .pre .0) (entry d .pre .1) (d .before .loop-test .taken) (h .higher-of .ensures .0) (c .size-of2 .ensures .0)
 
 kept : (c : tie.After-bit Inv-loop μ-loop)
-    → let a = c .before .before .before .before .before .before .before .before .before .before .before .before .args in
-    c .bit .result ≡ keeps (tables (a .sizes .now) (a .pairs .now) (a .rows .now)) (a .plan .now) (c .before .before .before .before .before .before .before .loop .k)
+    → let d = c .before .before .before .before .before in
+    let a = entry d .args in
+    c .bit .result ≡ keeps (tables (a .sizes .now) (a .pairs .now) (a .rows .now)) (a .plan .now) (head d .loop .k)
 kept c =
     let h = c .before .before in
     let s = h .before .before in
-    let b = s .before .before .before .before .before .before .before .before in
+    let d = s .before in
     c .bit .ensures
-    ∙ keeps-is (b .pre .0) (b .pre .1) (s .before .before .loop-test .taken) (s .before .before .before .loop .inv .1) (s .before .lower-of .ensures .0)
-    (s .size-of .ensures .0) (h .higher-of .ensures .0) (c .before .size-of2 .ensures .0)
+    ∙ keeps-is (entry d .pre .0) (entry d .pre .1) (d .before .loop-test .taken) (head d .loop .inv .1) (d .lower-of .ensures .0) (s .size-of .ensures .0)
+    (h .higher-of .ensures .0) (c .before .size-of2 .ensures .0)
 
 returns : tie.Need-returns Inv-loop μ-loop
 unfolding broken
@@ -92,13 +95,8 @@ size-of-requires-3 c κs = lower-named (c .before .before .before .before .befor
 add-start : tie.Need-add-start Inv-loop μ-loop
 add-start c =
     let d = c .before .before .before .before .before .before .before in
-    let b = d .before .before .before .before .before .before .before in
-    omega (
-      arith,
-      next-inside (b .pre .0) (b .pre .1) (d .before .loop-test .taken) (d .before .before .loop .inv .1) (d .lower-of .ensures .0)
-          (c .size-of3 .ensures .0),
-      b .good .1 .1 .0,
-    )
+    omega
+    (arith, next-inside (entry d .pre .0) (entry d .pre .1) (d .before .loop-test .taken) (head d .loop .inv .1) (d .lower-of .ensures .0) (c .size-of3 .ensures .0), entry d .good)
 
 add-k : tie.Need-add-k Inv-loop μ-loop
 add-k c = search needs
@@ -109,10 +107,9 @@ loop-less c = search needs
 loop-again : tie.Need-loop-again Inv-loop μ-loop
 loop-again c =
     let d = c .before .before .before .before .before .before .before in
-    let b = d .before .before .before .before .before .before .before in
-    let l = d .before .before .loop in (
+    let l = head d .loop in (
       omega arith,
-      next-row (b .pre .0) (b .pre .1) (d .before .loop-test .taken) (l .inv .1) (d .lower-of .ensures .0) (c .size-of3 .ensures .0),
+      next-row (entry d .pre .0) (entry d .pre .1) (d .before .loop-test .taken) (l .inv .1) (d .lower-of .ensures .0) (c .size-of3 .ensures .0),
       below-more _ _ (l .inv .2) (ap not (sym (kept (c .before .before))) ∙ c .before .if1 .left),
     )
 

@@ -1,4 +1,4 @@
--- Every pair passed is good. Assumes nothing.
+-- Every pair passed is good.
 use mathlib.Core.Path.{_≡_, sym, _∙_}
 use mathlib.Core.Bool.{false}
 use Prim.Native.Nat.{ℕ, _-_, _≤_, _<_}

@@ -1,4 +1,4 @@
--- The code's tests are those of the definition. Assumes nothing.
+-- The code's tests are those of the definition.
 use mathlib.Core.Path.{sym, ap₂, _∙_}
 use borrow.Author.Needs.{needs}
 use borrow.Author.Tests.{ne-eqb}

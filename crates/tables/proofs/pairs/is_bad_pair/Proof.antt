@@ -1,4 +1,4 @@
--- Below the higher boat, which is named, the lower one is named too. Assumes nothing.
+-- Below the higher boat, which is named, the lower one is named too.
 use mathlib.Core.Path.{sym, ap, _∙_}
 use mathlib.Core.Bool.{not}
 use borrow.Author.Needs.{needs}

@@ -1,4 +1,4 @@
--- No word passed is wide. Assumes nothing.
+-- No word passed is wide.
 use mathlib.Core.Path.{_≡_, sym, _∙_}
 use mathlib.Core.Bool.{false}
 use Prim.Native.Nat.{ℕ, _-_, _^_, _≤_, _<_}

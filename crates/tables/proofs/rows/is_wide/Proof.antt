@@ -1,4 +1,4 @@
--- No word has a bit at or above 64; below that the shift tells. Assumes nothing.
+-- No word has a bit at or above 64; below that the shift tells.
 use mathlib.Core.Path.{sym}
 use Prim.Native.Nat.{_^_}
 use borrow.Author.Needs.{needs}

@@ -1,4 +1,4 @@
--- Every boat passed has a good size. Assumes nothing.
+-- Every boat passed has a good size.
 use mathlib.Core.Path.{_≡_, sym, ap, _∙_}
 use mathlib.Core.Bool.{false, _||_}
 use Prim.Native.Nat.{ℕ, _-_, _≤_, _<_}

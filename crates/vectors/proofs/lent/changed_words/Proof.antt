@@ -1,4 +1,4 @@
--- The place looked at lies in the slice. Assumes nothing.
+-- The place looked at lies in the slice.
 use Prim.Native.Nat.{_≤_}
 use lib.ListN.{length}
 use borrow.Author.Needs.{needs}

@@ -1,4 +1,4 @@
--- The slice keeps its length. Assumes nothing.
+-- The slice keeps its length.
 use mathlib.Core.Path.{_≡_, refl}
 use Prim.Native.Nat.{_-_}
 use lib.ListN.{length, length-set}

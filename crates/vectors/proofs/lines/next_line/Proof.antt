@@ -1,4 +1,4 @@
--- The place only moves on, within the text. Assumes nothing.
+-- The place only moves on, within the text.
 use Prim.Native.Nat.{_-_, _≤_}
 use lib.ListN.{length}
 use borrow.Author.Needs.{needs}

@@ -1,45 +1,30 @@
--- Nothing has to hold from turn to turn; the words left fall. Assumes nothing.
+-- Nothing has to hold from turn to turn; the words left fall.
+use borrow.Author.Needs.{needs}
 use Prim.Native.Nat.{_-_}
 use lib.ListN.{length}
-use borrow.Author.Needs.{needs}
 use Rattle.vectors.proofs.say.words.Statement.{statement}
 use Rattle.vectors.proofs.say.words.Tie as tie
 
 abbrev Inv-loop : tie.InvT-loop
-Inv-loop shown k₀ t5 k = Unit {0}
+Inv-loop shown k₀ k = Unit {0}
 
 abbrev μ-loop : tie.MeasureT-loop
-μ-loop shown k₀ t5 k = length shown - k
+μ-loop shown k₀ k = length shown - k
 
-slice-aggregate-text : tie.Need-slice-aggregate-text Inv-loop μ-loop
-slice-aggregate-text c = search needs
-
-text-requires : tie.Need-text-requires Inv-loop μ-loop
-text-requires c κs = search needs
-
-slice-aggregate-text-2 : tie.Need-slice-aggregate-text-2 Inv-loop μ-loop
-slice-aggregate-text-2 c = search needs
-
-text-requires-2 : tie.Need-text-requires-2 Inv-loop μ-loop
-text-requires-2 c κs = search needs
+begin-requires : tie.Need-begin-requires Inv-loop μ-loop
+begin-requires c κs = search needs
 
 loop-holds : tie.Need-loop-holds Inv-loop μ-loop
 loop-holds c = tt
 
-slice-aggregate-text-3 : tie.Need-slice-aggregate-text-3 Inv-loop μ-loop
-slice-aggregate-text-3 c = search needs
+mul-word : tie.Need-mul-word Inv-loop μ-loop
+mul-word c = search needs
 
-text-requires-3 : tie.Need-text-requires-3 Inv-loop μ-loop
-text-requires-3 c κs = search needs
+shared-slice-read-word : tie.Need-shared-slice-read-word Inv-loop μ-loop
+shared-slice-read-word c = search needs
 
-mul-print-hex : tie.Need-mul-print-hex Inv-loop μ-loop
-mul-print-hex c = search needs
-
-shared-slice-read-print-hex : tie.Need-shared-slice-read-print-hex Inv-loop μ-loop
-shared-slice-read-print-hex c = search needs
-
-print-hex-requires : tie.Need-print-hex-requires Inv-loop μ-loop
-print-hex-requires c κs = search needs
+word-requires : tie.Need-word-requires Inv-loop μ-loop
+word-requires c κs = search needs
 
 add-k : tie.Need-add-k Inv-loop μ-loop
 add-k c = search needs
@@ -59,16 +44,11 @@ words-spec =
     (tie.spec
     Inv-loop
     μ-loop
-    slice-aggregate-text
-    text-requires
-    slice-aggregate-text-2
-    text-requires-2
+    begin-requires
     loop-holds
-    slice-aggregate-text-3
-    text-requires-3
-    mul-print-hex
-    shared-slice-read-print-hex
-    print-hex-requires
+    mul-word
+    shared-slice-read-word
+    word-requires
     add-k
     loop-less
     loop-again

@@ -1,4 +1,4 @@
--- The words below k are 0. Assumes nothing.
+-- The words below k are 0.
 use mathlib.Core.Path.{_≡_, refl, ap, _∙_}
 use mathlib.Core.List.{List}
 use Prim.Native.Nat.{ℕ, _-_, _≤_}

@@ -1,9 +1,9 @@
--- The words of the boats passed are right. Assumes nothing.
+-- The words of the boats passed are right.
 use Prim.Native.Nat.{_+_, _-_, _*_, _≤_}
 use borrow.Author.Needs.{needs}
 use native.Mathlib.Omega.{arith}
 use lib.ListN.{length, length-set}
-use Rattle.words.specs.Layout.{tables}
+use Rattle.problem.specs.Tables.{tables}
 use Rattle.words.proofs.Ahead.{AheadTo, ahead-none, ahead-few, ahead-more, ahead-all}
 use Rattle.words.proofs.index.index_ahead.Statement.{statement}
 use Rattle.words.proofs.index.index_ahead.Tie as tie
@@ -13,6 +13,13 @@ Inv-loop sizes pairs rows work₀ n k₀ start₀ i₀ work k start i = AheadTo 
 
 abbrev μ-loop : tie.MeasureT-loop
 μ-loop sizes pairs rows work₀ n k₀ start₀ i₀ work k start i = length sizes - i
+
+-- THE PLACES: the function's entry, seen from the head of the loop; and that head, seen from where a boat's size is known
+abbrev entry : tie.At-loop Inv-loop μ-loop → tie.Start Inv-loop μ-loop
+entry l = l .before .before .before .before .before
+
+abbrev head : tie.After-size-of Inv-loop μ-loop → tie.At-loop Inv-loop μ-loop
+head c = c .before .before .before
 
 loop-holds : tie.Need-loop-holds Inv-loop μ-loop
 loop-holds c = ahead-none _
@@ -36,7 +43,7 @@ slice-write-work-2 : tie.Need-slice-write-work-2 Inv-loop μ-loop
 slice-write-work-2 c = simp length-set (omega arith)
 
 pairs-end-requires : tie.Need-pairs-end-requires Inv-loop μ-loop
-pairs-end-requires c κs = (c .before .before .before .before .before .before .pre .0 .rising, c .before .loop .inv .first)
+pairs-end-requires c κs = let l = c .before in (entry l .pre .0 .rising, l .loop .inv .first)
 
 sub-start : tie.Need-sub-start Inv-loop μ-loop
 sub-start c = search needs
@@ -46,10 +53,10 @@ size-of-requires c κs = search needs
 
 -- the rows are few
 few : (c : tie.After-size-of Inv-loop μ-loop)
-    → c .before .before .before .loop .start + (c .before .pairs-end .result - c .before .before .before .loop .k) * c .size-of .result ≤ 129024
+    → head c .loop .start + (c .before .pairs-end .result - head c .loop .k) * c .size-of .result ≤ 129024
 few c =
-    let p = c .before .before .before .before .before .before .before .before .pre in
-    ahead-few (p .0) (p .1) (c .before .before .before .loop .inv) (c .before .pairs-end .ensures) (c .size-of .ensures .0)
+    let p = entry (head c) .pre in
+    ahead-few (p .0) (p .1) (head c .loop .inv) (c .before .pairs-end .ensures) (c .size-of .ensures .0)
 
 mul-start : tie.Need-mul-start Inv-loop μ-loop
 mul-start c = omega (arith, few c)
@@ -65,9 +72,8 @@ loop-less c = search needs
 
 loop-again : tie.Need-loop-again Inv-loop μ-loop
 loop-again c =
-    let p = c .before .before .before .before .before .before .before .before .pre in
-    ahead-more (p .0) (p .1) (c .before .before .before .loop .inv) (c .before .pairs-end .ensures) (c .size-of .ensures .0)
-    (c .before .before .loop-test .taken)
+    let p = entry (head c) .pre in
+    ahead-more (p .0) (p .1) (head c .loop .inv) (c .before .pairs-end .ensures) (c .size-of .ensures .0) (c .before .before .loop-test .taken)
 
 add-work-3 : tie.Need-add-work-3 Inv-loop μ-loop
 add-work-3 c = search needs
@@ -83,7 +89,7 @@ same-length c = simp length-set (c .before .loop .inv .only .long)
 
 returns : tie.Need-returns Inv-loop μ-loop
 returns c =
-    let p = c .before .before .before .before .before .before .pre in
+    let p = entry (c .before) .pre in
     ahead-all (p .0) (p .1) (c .before .loop .inv) (c .loop-test .left)
 
 pub index-ahead-spec : {M : Type 1} → statement M

@@ -1,10 +1,10 @@
--- The index holds the pairs passed. Assumes nothing.
+-- The index holds the pairs passed.
 use mathlib.Core.Path.{_≡_, ap, _∙_}
 use Prim.Native.Nat.{_+_, _-_, _<_}
 use borrow.Author.Needs.{needs}
 use native.Mathlib.Omega.{arith}
-use Rattle.problem.specs.Tables.{size, listed}
-use Rattle.words.specs.Layout.{tables, tri}
+use Rattle.problem.specs.Tables.{tables, size, listed}
+use Rattle.words.specs.Places.{tri}
 use Rattle.words.proofs.Back.{indexPlace, BackTo, indexPlace-lt, back-none, back-few, back-more, back-all}
 use Rattle.words.proofs.index.index_back.Statement.{statement}
 use Rattle.words.proofs.index.index_back.Tie as tie
@@ -15,8 +15,18 @@ Inv-loop sizes pairs rows work₀ count start₀ k₀ work start k = BackTo (tab
 abbrev μ-loop : tie.MeasureT-loop
 μ-loop sizes pairs rows work₀ count start₀ k₀ work start k = listed pairs - k
 
+-- THE PLACES: the function's entry, seen from the first place that the code reaches and from the head of the loop; and that head, seen from a pair
+abbrev entry : tie.After-slice-known Inv-loop μ-loop → tie.Start Inv-loop μ-loop
+entry c = c .before .before .before .before
+
+abbrev S : tie.At-loop Inv-loop μ-loop → tie.Start Inv-loop μ-loop
+S l = entry (l .before)
+
+abbrev head : tie.After-row-at Inv-loop μ-loop → tie.At-loop Inv-loop μ-loop
+head c = c .before .before .before .before
+
 loop-holds : tie.Need-loop-holds Inv-loop μ-loop
-loop-holds c = let p = c .before .before .before .before .pre in back-none (p .0) _ (p .1 .1)
+loop-holds c = let p = entry c .pre in back-none (p .0) _ (p .1 .1)
 
 lower-of-requires : tie.Need-lower-of-requires Inv-loop μ-loop
 lower-of-requires c κs = search needs
@@ -26,24 +36,23 @@ higher-of-requires c κs = search needs
 
 row-at-requires : tie.Need-row-at-requires Inv-loop μ-loop
 row-at-requires c κs =
-    let s = c .before .before .before .before .before .before .before .before .pre .0 in
-    omega (arith, s .boatsNamed (c .before .before .before .loop .k) (c .before .before .loop-test .taken))
+    let l = c .before .before .before in
+    omega (arith, S l .pre .0 .boatsNamed (l .loop .k) (c .before .before .loop-test .taken))
 
 -- the code finds where the word of pair k is
 found : (c : tie.After-row-at Inv-loop μ-loop)
-    → let a = c .before .before .before .before .before .before .before .before .before .args in
+    → let a = S (head c) .args in
     let at = c .row-at .result + c .before .before .lower-of .result in
-    (at ≡ indexPlace (tables (a .sizes .now) (a .pairs .now) (a .rows .now)) (c .before .before .before .before .loop .k)) × (at < 4096)
+    (at ≡ indexPlace (tables (a .sizes .now) (a .pairs .now) (a .rows .now)) (head c .loop .k)) × (at < 4096)
 found c =
-    let s = c .before .before .before .before .before .before .before .before .before .pre .0 in
-    let l = indexPlace-lt s (c .before .before .before .before .loop .k) (c .before .before .before .loop-test .taken) in
+    let l = indexPlace-lt (S (head c) .pre .0) (head c .loop .k) (c .before .before .before .loop-test .taken) in
     omega (arith, ap tri (c .before .higher-of .ensures .0))
 
 add-at : tie.Need-add-at Inv-loop μ-loop
 add-at c = omega (arith, found c .1)
 
 add-work : tie.Need-add-work Inv-loop μ-loop
-add-work c = let s = c .before .before .before .before .before .before .before .before .before .pre .0 in omega (arith, back-few s (c .before .before .before .before .loop .inv))
+add-work c = omega (arith, back-few (S (head c) .pre .0) (head c .loop .inv))
 
 mul-work : tie.Need-mul-work Inv-loop μ-loop
 mul-work c = omega (arith, found c .1)
@@ -53,13 +62,13 @@ slice-write-work c = omega (arith, found c .1)
 
 size-of-requires : tie.Need-size-of-requires Inv-loop μ-loop
 size-of-requires c κs =
-    let s = c .before .before .before .before .before .before .before .before .before .pre .0 in
-    let k = c .before .before .before .before .loop .k in
+    let s = S (head c) .pre .0 in
+    let k = head c .loop .k in
     let l = c .before .before .before .loop-test .taken in
     omega (arith, s .lowerFirst k l, s .boatsNamed k l)
 
 add-start : tie.Need-add-start Inv-loop μ-loop
-add-start c = let s = c .before .before .before .before .before .before .before .before .before .before .pre .0 in omega (arith, back-few s (c .before .before .before .before .before .loop .inv))
+add-start c = let l = head (c .before) in omega (arith, back-few (S l .pre .0) (l .loop .inv))
 
 add-k : tie.Need-add-k Inv-loop μ-loop
 add-k c = search needs
@@ -69,19 +78,18 @@ loop-less c = search needs
 
 loop-again : tie.Need-loop-again Inv-loop μ-loop
 loop-again c =
-    let a = c .before .before .before .before .before .before .before .before .before .before .args in
-    let p = c .before .before .before .before .before .before .before .before .before .before .pre in
-    back-more (p .0) (c .before .before .before .before .before .loop .inv) (p .1 .0) (c .before .before .before .before .loop-test .taken) (found (c .before) .0)
-    (c .size-of .ensures .0 ∙ ap (size (a .sizes .now)) (c .before .before .before .lower-of .ensures .0))
+    let l = head (c .before) in
+    let p = S l .pre in
+    back-more (p .0) (l .loop .inv) (p .1 .0) (c .before .before .before .before .loop-test .taken) (found (c .before) .0)
+    (c .size-of .ensures .0 ∙ ap (size (S l .args .sizes .now)) (c .before .before .before .lower-of .ensures .0))
 
 same-length : tie.Need-same-length Inv-loop μ-loop
 same-length c = c .before .loop .inv .only .long
 
 returns : tie.Need-returns Inv-loop μ-loop
 returns c =
-    let p = c .before .before .before .before .before .before .pre in
     let b = c .before .loop .inv in
-    (back-all (p .0) b (c .loop-test .left), b .only)
+    (back-all (S (c .before) .pre .0) b (c .loop-test .left), b .only)
 
 pub index-back-spec : {M : Type 1} → statement M
 index-back-spec =

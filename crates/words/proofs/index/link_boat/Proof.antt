@@ -1,10 +1,11 @@
--- The boats passed have their links, and the row's later words are as they were. Assumes nothing.
+-- The boats passed have their links, and the row's later words are as they were.
 use mathlib.Core.Logic.{⊎-elim}
 use Prim.Native.Nat.{_+_, _-_, _≤_, _<_}
 use borrow.Author.Needs.{needs}
 use native.Mathlib.Omega.{arith}
 use lib.ListN.{length}
-use Rattle.words.specs.Layout.{tables, word}
+use Rattle.problem.specs.Tables.{tables}
+use Rattle.words.specs.Layout.{word}
 use Rattle.words.proofs.Triangle.{tri-small}
 use Rattle.words.proofs.Linking.{RowTo, row-none, row-bounds, row-index-few, row-past, row-link, row-all}
 use Rattle.words.proofs.index.link_boat.Statement.{statement}
@@ -15,6 +16,13 @@ Inv-loop sizes pairs rows i from work₀ row to₀ h₀ work to h = RowTo (table
 
 abbrev μ-loop : tie.MeasureT-loop
 μ-loop sizes pairs rows i from work₀ row to₀ h₀ work to h = i - h
+
+-- THE PLACES: the function's entry, seen from the first place that the code reaches and from the head of the loop
+abbrev entry : tie.After-row-at Inv-loop μ-loop → tie.Start Inv-loop μ-loop
+entry c = c .before .before .before .before .before
+
+abbrev S : tie.At-loop Inv-loop μ-loop → tie.Start Inv-loop μ-loop
+S l = entry (l .before)
 
 row-at-requires : tie.Need-row-at-requires Inv-loop μ-loop
 row-at-requires c κs = search needs
@@ -27,8 +35,8 @@ within : (c : tie.In-loop Inv-loop μ-loop)
     → let l = c .before .loop in
     (c .before .before .row-at .result + l .h < length (l .work)) × (512 + l .to < length (l .work)) × (c .before .before .row-at .result + l .h < 4096) × (512 + l .to < 4096)
 within c =
-    let s = c .before .before .before .before .before .before .before in
-    omega (arith, tri-small (s .args .i) (omega arith), row-bounds (c .before .loop .inv), c .before .loop .inv .only .long)
+    let l = c .before in
+    omega (arith, tri-small (S l .args .i) (omega arith), row-bounds (l .loop .inv), l .loop .inv .only .long)
 
 add-index : tie.Need-add-index Inv-loop μ-loop
 add-index c = omega (arith, within c)
@@ -39,11 +47,10 @@ mul-index c = omega (arith, within c)
 slice-read-index : tie.Need-slice-read-index Inv-loop μ-loop
 slice-read-index c = omega (arith, within (c .before))
 
-few : (c : tie.Then1 Inv-loop μ-loop) → let l = c .before .before .before .loop in word (l .work) (c .before .before .before .before .row-at .result + l .h) ≤ 129025
+few : (c : tie.Then1 Inv-loop μ-loop) → let l = c .before .before .before in word (l .loop .work) (l .before .row-at .result + l .loop .h) ≤ 129025
 few c =
-    let s = c .before .before .before .before .before .before .before .before .before in
-    let l = c .before .before .before .loop in
-    row-index-few (l .inv) (omega arith) (c .before .before .before .before .row-at .ensures) (s .pre .1 .1 (l .h) (omega arith)) (s .pre .0)
+    let l = c .before .before .before in
+    row-index-few (l .loop .inv) (omega arith) (l .before .row-at .ensures) (S l .pre .1 .1 (l .loop .h) (omega arith)) (S l .pre .0)
 
 sub-work : tie.Need-sub-work Inv-loop μ-loop
 sub-work c = search needs
@@ -74,14 +81,14 @@ loop-less c = search needs
 
 loop-again : tie.Need-loop-again Inv-loop μ-loop
 loop-again c =
-    let s = c .before .before .before .before .before .before .before .before .before in
-    let l = c .before .before .before .loop in
-    let er = c .before .before .before .before .row-at .ensures in
-    let lh : l .h < s .args .i = omega arith in
-    let d = s .pre .1 .1 (l .h) lh in
+    let l = c .before .before .before in
+    let s = S l in
+    let er = l .before .row-at .ensures in
+    let lh : l .loop .h < s .args .i = omega arith in
+    let d = s .pre .1 .1 (l .loop .h) lh in
     ⊎-elim
-    (λ w. rw (w .1, w .2) (row-link (l .inv) (s .pre .1 .0 .1) er d lh (omega arith) (within (c .before .before) .1)))
-    (λ w. rw (w .1, w .2) (row-past (l .inv) (s .pre .1 .0 .1) er d lh (w .0 .left)))
+    (λ w. rw (w .1, w .2) (row-link (l .loop .inv) (s .pre .1 .0 .1) er d lh (omega arith) (within (c .before .before) .1)))
+    (λ w. rw (w .1, w .2) (row-past (l .loop .inv) (s .pre .1 .0 .1) er d lh (w .0 .left)))
     (c .if1 .came)
 
 same-length : tie.Need-same-length Inv-loop μ-loop

@@ -1,4 +1,4 @@
--- Every pair passed has a lower boat of at most the boat. Assumes nothing.
+-- Every pair passed has a lower boat of at most the boat.
 use mathlib.Core.Path.{_≡_, sym, _∙_}
 use Prim.Native.Nat.{ℕ, _+_, _-_, _≤_, _<_}
 use borrow.Author.Count.{below-more}

@@ -1,4 +1,4 @@
--- The formula of the triangular numbers. Assumes nothing.
+-- The formula of the triangular numbers.
 use native.Mathlib.Omega.{arith}
 use Rattle.words.proofs.Triangle.{tri-twice, tri-small}
 use Rattle.words.proofs.index.row_at.Statement.{statement}

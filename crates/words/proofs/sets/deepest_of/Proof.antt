@@ -1,4 +1,4 @@
--- From the count of leading zeros. Assumes nothing.
+-- From the count of leading zeros.
 use native.Mathlib.Omega.{arith}
 use lib.Count.{leading-le}
 use Rattle.words.proofs.Bits.{deepest-top}

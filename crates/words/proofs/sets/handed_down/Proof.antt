@@ -1,4 +1,4 @@
--- The union less its deepest member is what lies below that member. Assumes nothing.
+-- The union less its deepest member is what lies below that member.
 use borrow.Author.Needs.{needs}
 use native.Mathlib.Omega.{arith}
 use Rattle.words.proofs.Bits.{shl-one, or-ge, handed}

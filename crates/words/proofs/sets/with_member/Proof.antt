@@ -1,4 +1,4 @@
--- The union with a single boat. Assumes nothing.
+-- The union with a single boat.
 use borrow.Author.Needs.{needs}
 use Rattle.words.proofs.Bits.{shl-one, inserted}
 use Rattle.words.proofs.sets.with_member.Statement.{statement}

@@ -1,0 +1,27 @@
+-- The places that a search comes to, and a place from which the rest of it is to come. (They are words of the theorems on jumps and on stopping.)
+use mathlib.Core.Path.{_≡_}
+use mathlib.Core.List.{List, []}
+use Prim.Native.Nat.{ℕ}
+use lib.ListN.{drop}
+use Rattle.problem.specs.Tables.{Tables}
+use Rattle.events.specs.Events.{Event, Search}
+use Rattle.methods.specs.Machine.{Steps, next, step, searchInside}
+
+module _ (t : Tables) {S : Type 0} (M : Steps S) where
+  -- the beginning, and what a step makes of such a place
+  pub data Reached : List ℕ → ℕ → S → Type 0 where
+    start : Reached [] 0 (M .start)
+    later : {p : List ℕ} {a : ℕ} {σ : S} {es : List Event} {p′ : List ℕ} {a′ : ℕ} {σ′ : S} → Reached p a σ → step t M p a σ ≡ next es p′ a′ σ′ → Reached p′ a′ σ′
+
+  -- a place that the search from the beginning comes to, with so many events of its step made, and from which s is to come
+  pub record Place (s : Search) : Type 0 where
+    pub plan : List ℕ
+    pub choice : ℕ
+    pub memory : S
+    pub made : ℕ
+    pub reached : Reached plan choice memory
+    pub comes : searchInside t M made plan choice memory ≡ s
+
+-- a search without its first k events
+abbrev pub after : (k : ℕ) → Search → Search
+after k s = record { events = drop k (s .events); ending = s .ending }

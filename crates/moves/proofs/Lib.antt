@@ -1,0 +1,5 @@
+pub mod Stored
+pub mod Labels
+pub mod Backwards
+pub mod Jumping
+pub mod Prepared

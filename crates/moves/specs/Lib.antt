@@ -1,0 +1,5 @@
+pub mod Memory
+pub mod Stored
+pub mod Moves
+pub mod Jumps
+pub mod Prepared

@@ -1,0 +1,21 @@
+-- The words as a search begins with them.
+use mathlib.Core.Path.{_≡_}
+use mathlib.Core.List.{List, []}
+use Prim.Native.Nat.{ℕ}
+use Rattle.problem.specs.Tables.{Tables}
+use Rattle.words.specs.Places.{starts, used}
+use Rattle.words.specs.Layout.{ChangedOnly, Firsts}
+use Rattle.looking_ahead.specs.Lives.{Lives, Copied}
+use Rattle.moves.specs.declared.Moves.{Moves}
+use Rattle.moves.specs.Memory.{stepsBy, memory, Kept}
+
+pub record PreparedAhead (t : Tables) (w w′ : List ℕ) : Type 0 where
+  pub firsts : Firsts t w′
+  pub lives : Lives t w′ [] 0
+  pub copied : Copied t w′ 0
+  pub only : ChangedOnly starts used w w′
+
+pub record Prepared (moves : Moves) (t : Tables) (w w′ : List ℕ) : Type 0 where
+  pub kept : Kept moves t w′ 0
+  pub fresh : memory moves w′ 0 ≡ stepsBy moves t .start
+  pub only : ChangedOnly 0 used w w′

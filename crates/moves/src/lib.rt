@@ -1,0 +1,36 @@
+// The moves of a search over the working words: forward, back, and what is made ready before the first.
+ghost use mathlib.Core.Path.{_≡_};
+ghost use Rattle.moves.specs.Memory.{movesOf};
+
+mod labelled;
+mod labelling;
+mod preparing;
+mod storing;
+mod unlabelling;
+
+pub use labelled::Labelled;
+pub use labelling::label;
+pub use preparing::prepare;
+use problem::Method;
+pub use unlabelling::unlabel;
+use visits::Backward;
+
+// A forward move, and where it is open, a backward one.
+pub enum Moves {
+    LookingBack(Backward),
+    Marking,
+    LookingAhead(Backward),
+}
+
+// The moves that a method is made of.
+pub fn moves_of(method: Method) -> Moves
+    ensures { λ r. ⌜ r ≡ movesOf method ⌝ }
+{
+    match method {
+        Method::Bt => Moves::LookingBack(Backward::OneBack),
+        Method::Cbj => Moves::LookingBack(Backward::BySets),
+        Method::Bm => Moves::Marking,
+        Method::Fc => Moves::LookingAhead(Backward::OneBack),
+        Method::FcCbj => Moves::LookingAhead(Backward::BySets),
+    }
+}

@@ -1,0 +1,23 @@
+-- What a check against a row comes to, case by case.
+use mathlib.Core.Path.{_≡_, refl, sym, ap, _∙_}
+use mathlib.Core.Bool.{Bool, true, false}
+use Rattle.events.specs.declared.Counts.{Counts}
+use Rattle.events.specs.declared.Counted.{Counted}
+use Rattle.events.specs.declared.Counted.the-variants.{Within, Out as CountedOut}
+use Rattle.events.specs.Counts.{checkCounted}
+use Rattle.visits.specs.declared.Look.the-variants.{Allowed, Forbidden, OutOfChecks}
+use Rattle.visits.specs.Looks.{checkedLook}
+
+out-look : (allows : Bool) (k : Counts) → OutOfChecks k ≡ checkedLook allows (CountedOut k)
+out-look true k = refl
+out-look false k = refl
+
+module _ (allows : Bool) (m k : Counts) (c : Counted) (e : c ≡ checkCounted m) where
+  pub look-out : c ≡ CountedOut k → OutOfChecks k ≡ checkedLook allows (checkCounted m)
+  look-out f = out-look allows k ∙ ap (checkedLook allows) (sym f ∙ e)
+
+  pub look-allowed : c ≡ Within k → allows ≡ true → Allowed k ≡ checkedLook allows (checkCounted m)
+  look-allowed f a = sym (ap (λ (b : Bool). checkedLook b (Within k)) a) ∙ ap (checkedLook allows) (sym f ∙ e)
+
+  pub look-forbidden : c ≡ Within k → allows ≡ false → Forbidden k ≡ checkedLook allows (checkCounted m)
+  look-forbidden f a = sym (ap (λ (b : Bool). checkedLook b (Within k)) a) ∙ ap (checkedLook allows) (sym f ∙ e)

@@ -1,0 +1,89 @@
+// The walk of a search: forward while a slot passes; where none is left, back as the method says.
+ghost use mathlib.Core.Path.{_≡_};
+ghost use Prim.Native.Nat.{_≤_};
+ghost use lib.ListN.{length};
+ghost use Rattle.problem.specs.Tables.{Tables, tables};
+ghost use Rattle.problem.specs.Sane.{Sane};
+ghost use Rattle.events.specs.Counts.{Fits};
+ghost use Rattle.words.specs.Places.{used};
+ghost use Rattle.walk.specs.Walks.{Setting, Walked, Searched};
+use events::Counts;
+use moves::Labelled;
+use moves::Moves;
+use problem::Allowance;
+use problem::Answer;
+use problem::Reply;
+use visits::Unlabelled;
+
+fn reply(answer: Answer, counts: Counts) -> Reply
+    ensures { λ r. ⌜ r ≡ record { answer = answer; checks = counts .checks; trials = counts .trials } ⌝ }
+{
+    Reply {
+        answer,
+        checks: counts.checks,
+        trials: counts.trials,
+    }
+}
+
+// From any place: a boat, its next slot, and the counts reached.
+pub fn walk(
+    moves: Moves,
+    sizes: &[u8],
+    pairs: &[u8],
+    rows: &[u64],
+    boat: usize,
+    from: u64,
+    start: Counts,
+    work: &mut [u64],
+) -> Reply
+    ghost { Tables }
+    requires { λ t. ⌜ tables (now sizes) (now pairs) (now rows) ≡ t ⌝ }
+    requires { λ t. ⌜ Setting moves t (now work) boat start ⌝ }
+    ensures { λ t r. ⌜ Walked moves t (now (work .entry)) boat from start (now (work .exit)) r ⌝ }
+{
+    let n = sizes.len();
+    let mut i = boat;
+    let mut slot = from;
+    let mut counts = start;
+    while i < n {
+        match moves::label(moves, sizes, pairs, rows, i, slot, counts, work) {
+            Labelled::Passed(k) => {
+                i += 1;
+                slot = 0;
+                counts = k;
+            }
+            Labelled::Spent(k) => match moves::unlabel(moves, sizes, pairs, rows, i, work) {
+                Unlabelled::Back(h) => {
+                    slot = work[h] + 1;
+                    i = h;
+                    counts = k;
+                }
+                Unlabelled::NoPlan => return reply(Answer::NoPlan, k),
+            },
+            Labelled::OutOfChecks(k) => return reply(Answer::Undecided(Allowance::Checks), k),
+            Labelled::OutOfTrials(k) => return reply(Answer::Undecided(Allowance::Trials), k),
+        }
+    }
+    reply(Answer::Solved, counts)
+}
+
+// From the beginning. The words are cleared first.
+pub fn search(
+    moves: Moves,
+    sizes: &[u8],
+    pairs: &[u8],
+    rows: &[u64],
+    start: Counts,
+    work: &mut [u64],
+) -> Reply
+    ghost { Tables }
+    requires { λ t. ⌜ tables (now sizes) (now pairs) (now rows) ≡ t ⌝ }
+    requires { λ t. ⌜ Sane t ⌝ }
+    requires { λ _. ⌜ used ≤ length (now work) ⌝ }
+    requires { λ _. ⌜ Fits start ⌝ }
+    ensures { λ t r. ⌜ Searched moves t (now (work .entry)) start (now (work .exit)) r ⌝ }
+{
+    words::clear(work);
+    moves::prepare(moves, sizes, pairs, rows, work);
+    walk(moves, sizes, pairs, rows, 0, 0, start, work)
+}
