@@ -1,7 +1,8 @@
 # make run      builds the library, proved, and an example; plans a harbour with it
 # make outside  holds the library, through its C header, to the second program and to lists of due
 #               answers: SECONDS=n says how long fresh seeds are drawn, SEED=n repeats a run
-# make bench    times the library beside a plain C search
+# make bench    times the library beside a plain C search; `target/bench/bench each` then gives a line
+#               for each file too
 # make vectors  writes the stored problems and replies of crates/vectors anew
 # make gate     proves every crate from nothing, tries the must-fail edits, runs the programs
 # make clean    removes all that was built and proved
@@ -16,6 +17,7 @@ SANITIZED = -O1 -g -fsanitize=address,undefined -fno-sanitize-recover=all
 LIBRARY = target/staticlib/libharbour.a
 SECOND = target/second/release/second
 EXAMPLE = target/example/harbour
+BENCH = target/bench/bench
 OUTSIDE = target/outside
 
 SECONDS = 60
@@ -36,42 +38,52 @@ $(LIBRARY): $(PROVED)
 	@mkdir -p target
 	@rt staticlib harbour 2>&1 | tee target/harbour.log | grep --line-buffered '^rt:' || { cat target/harbour.log; exit 1; }
 
-$(EXAMPLE): $(wildcard example/*.[ch]) include/harbour.h $(LIBRARY)
-	@mkdir -p $(@D)
-	@$(CC) $(CFLAGS) -Iinclude -o $@ $(wildcard example/*.c) $(LIBRARY)
+# One program of the C files among what it is made from, and the library.
+define compiled
+@mkdir -p $(@D)
+@$(CC) $(CFLAGS) $(INCLUDED) -o $@ $(filter %.c %.a,$^)
+endef
+
+INCLUDED = -Iinclude -Ic
+HEADERS := include/harbour.h $(wildcard c/*.h)
+
+$(EXAMPLE): $(wildcard example/*.[ch] c/*.c) $(HEADERS) $(LIBRARY)
+	$(compiled)
+
+# Aligned functions: where the plain search falls in memory should not decide how fast it is.
+$(BENCH): CFLAGS += -O3 -falign-functions=64
+$(BENCH): $(wildcard bench/*.[ch] c/*.c) $(HEADERS) $(LIBRARY)
+	$(compiled)
 
 $(SECOND): $(shell find outside/second -name '*.rs' -o -name 'Cargo.*')
 	@cargo build --quiet --offline --release --manifest-path outside/second/Cargo.toml --target-dir target/second
 
-# The calls' files are compiled twice, as C and as C++; each language has a main file of its own.
-LENT := $(wildcard outside/lent/*.c)
-CALLS := $(filter-out outside/calls/calls.c,$(wildcard outside/calls/*.c)) $(LENT)
-ANSWERING := $(wildcard outside/library/*.c) $(LENT)
-HEADERS := include/harbour.h $(wildcard outside/lent/*.h outside/calls/*.h outside/library/*.h)
-INCLUDED = -Iinclude -Ioutside/lent
+# The calls' files are compiled twice, as C and as C++.
+LENT := $(wildcard outside/lent/*.[ch])
+CALLS := $(wildcard outside/calls/*.[ch])
 CHECKED = $(OUTSIDE)/calls_c $(OUTSIDE)/calls_cpp $(OUTSIDE)/library
 BUILT = $(CHECKED) $(CHECKED:$(OUTSIDE)/%=$(OUTSIDE)/sanitized/%)
 
+$(BUILT): INCLUDED += -Ioutside/lent
 $(OUTSIDE)/sanitized/%: CFLAGS += $(SANITIZED)
 $(OUTSIDE)/sanitized/%: CXXFLAGS += $(SANITIZED)
 
-$(filter %/calls_c,$(BUILT)): outside/calls/calls.c $(CALLS) $(HEADERS) $(LIBRARY)
-	@mkdir -p $(@D)
-	@$(CC) $(CFLAGS) $(INCLUDED) -o $@ outside/calls/calls.c $(CALLS) $(LIBRARY)
+$(filter %/calls_c,$(BUILT)): $(CALLS) $(LENT) $(HEADERS) $(LIBRARY)
+	$(compiled)
 
-$(filter %/calls_cpp,$(BUILT)): outside/calls/calls.cpp $(CALLS) $(HEADERS) $(LIBRARY)
+$(filter %/calls_cpp,$(BUILT)): outside/calls/calls.cpp $(CALLS) $(LENT) $(HEADERS) $(LIBRARY)
 	@mkdir -p $(@D)
-	@$(CXX) $(CXXFLAGS) $(INCLUDED) -o $@ -x c++ outside/calls/calls.cpp $(CALLS) -x none $(LIBRARY)
+	@$(CXX) $(CXXFLAGS) $(INCLUDED) -o $@ -x c++ $(filter %.cpp %.c,$^) -x none $(LIBRARY)
 
-$(filter %/library,$(BUILT)): $(ANSWERING) $(HEADERS) $(LIBRARY)
-	@mkdir -p $(@D)
-	@$(CC) $(CFLAGS) $(INCLUDED) -o $@ $(ANSWERING) $(LIBRARY)
+$(filter %/library,$(BUILT)): $(wildcard outside/library/*.[ch]) $(LENT) $(HEADERS) $(LIBRARY)
+	$(compiled)
 
 outside: $(SECOND) $(BUILT)
+	@cargo test --quiet --offline --release --manifest-path outside/second/Cargo.toml --target-dir target/second > target/second.log 2>&1 || { cat target/second.log; exit 1; }
 	@bash outside/compare.sh $(SEED) $(SECONDS)
 
-bench: $(LIBRARY)
-	@$(MAKE) --no-print-directory -C bench
+bench: $(BENCH)
+	@$(BENCH)
 
 vectors: $(SECOND)
 	$(SECOND) vectors problems > crates/vectors/stdin

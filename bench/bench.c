@@ -2,22 +2,17 @@
 #include "families.h"
 #include "plain.h"
 
-#include <harbour.h>
 #include <stdio.h>
 #include <stdlib.h>
 #include <string.h>
 #include <time.h>
 
-enum { WORK = 8192, METHODS = 5, ROUNDS = 4, LIBRARY = 0, PLAIN = 1 };
+enum { METHODS = HARBOUR_FC_CBJ + 1, ROUNDS = 4, LIBRARY = 0, PLAIN = 1 };
 
 static const double STRETCH = 0.02;
-static const char *const method_name[METHODS + 1] = { "", "BT", "CBJ", "BM", "FC", "FC-CBJ" };
-
-/* What one run answers. */
-typedef struct {
-    uint64_t answer, checks, trials;
-    uint8_t plan[BOATS];
-} outcome;
+static const char *const method_name[METHODS] = {
+    [HARBOUR_BT] = "BT", [HARBOUR_CBJ] = "CBJ", [HARBOUR_BM] = "BM", [HARBOUR_FC] = "FC", [HARBOUR_FC_CBJ] = "FC-CBJ",
+};
 
 /* Of one method, over some files. */
 typedef struct {
@@ -25,8 +20,7 @@ typedef struct {
     double seconds[2];
 } sums;
 
-static tables problem;
-static uint64_t work[WORK];
+static draft problem;
 static uint64_t allowance;
 
 static double now(void)
@@ -36,31 +30,17 @@ static double now(void)
     return (double)t.tv_sec + 1e-9 * (double)t.tv_nsec;
 }
 
-static void run_once(int side, uint64_t method, outcome *o)
+static outcome run_once(int side, uint64_t method)
 {
-    const tables *t = &problem;
-    if (side == LIBRARY) {
-        harbour_reply r = harbour_run(method, t->sizes, t->boats, t->pair, 2 * t->pairs, t->rows, t->words, o->plan,
-                                      t->boats, work, WORK, allowance, allowance);
-        o->answer = r.answer;
-        o->checks = r.checks;
-        o->trials = r.trials;
-    } else {
-        plain_reply r = plain_run(method, t->sizes, t->boats, t->pair, 2 * t->pairs, t->rows, o->plan, allowance,
-                                  allowance);
-        o->answer = r.answer;
-        o->checks = r.checks;
-        o->trials = r.trials;
-    }
+    return (side == LIBRARY ? run : plain_run)(&problem, method, allowance, allowance);
 }
 
 /* Seconds a run, over so many runs. */
 static double stretch(int side, uint64_t method, unsigned runs)
 {
-    outcome o;
     double from = now();
     for (unsigned k = 0; k < runs; k++)
-        run_once(side, method, &o);
+        run_once(side, method);
     return (now() - from) / runs;
 }
 
@@ -69,18 +49,15 @@ static void differ(const char *name, unsigned file, uint64_t method, const outco
     printf("DIFFER: %s, file %u, %s\n", name, file, method_name[method]);
     for (int side = LIBRARY; side <= PLAIN; side++)
         printf("  %s: answer %llu, checks %llu, trials %llu\n", side == LIBRARY ? "library" : "plain C",
-               (unsigned long long)o[side].answer, (unsigned long long)o[side].checks,
-               (unsigned long long)o[side].trials);
+               (unsigned long long)o[side].reply.answer, (unsigned long long)o[side].reply.checks,
+               (unsigned long long)o[side].reply.trials);
     exit(1);
 }
 
 /* Answer, counts and plan, the same from both sides. */
 static outcome agreed(const char *name, unsigned file, uint64_t method)
 {
-    outcome o[2];
-    memset(o, 0, sizeof o);
-    run_once(LIBRARY, method, &o[LIBRARY]);
-    run_once(PLAIN, method, &o[PLAIN]);
+    const outcome o[] = { [LIBRARY] = run_once(LIBRARY, method), [PLAIN] = run_once(PLAIN, method) };
     if (memcmp(&o[LIBRARY], &o[PLAIN], sizeof *o) != 0)
         differ(name, file, method, o);
     return o[LIBRARY];
@@ -90,7 +67,7 @@ static outcome agreed(const char *name, unsigned file, uint64_t method)
 static sums measured(const char *name, unsigned file, uint64_t method)
 {
     outcome o = agreed(name, file, method);
-    sums s = { o.checks, o.trials, { 1e9, 1e9 } };
+    sums s = { o.reply.checks, o.reply.trials, { 1e9, 1e9 } };
     double once = stretch(PLAIN, method, 1);
     unsigned runs = once < STRETCH ? (unsigned)(STRETCH / (once + 1e-9)) + 1 : 1;
     for (int round = 0; round < ROUNDS; round++)
@@ -122,21 +99,20 @@ static void print_sums(const char *name, uint64_t method, const sums *s)
 
 static void run_family(const family *f, int each, sums *total)
 {
-    sums part[METHODS + 1];
-    memset(part, 0, sizeof part);
+    sums part[METHODS] = { 0 };
     allowance = f->allowance;
     for (unsigned file = 0; file < f->files; file++) {
         char name[24];
         snprintf(name, sizeof name, "  file %u", file);
         f->make(&problem, file);
-        for (uint64_t m = 1; m <= METHODS; m++) {
+        for (uint64_t m = HARBOUR_BT; m < METHODS; m++) {
             sums s = measured(f->name, file, m);
             if (each)
                 print_sums(name, m, &s);
             add(&part[m], &s);
         }
     }
-    for (uint64_t m = 1; m <= METHODS; m++) {
+    for (uint64_t m = HARBOUR_BT; m < METHODS; m++) {
         print_sums(f->name, m, &part[m]);
         add(&total[m], &part[m]);
     }
@@ -145,13 +121,14 @@ static void run_family(const family *f, int each, sums *total)
 /* Source 000 gives 61 pairs and 11 plans; a search must find the first of them. */
 static void try_zebra(void)
 {
-    uint8_t first[BOATS] = { 0 };
+    uint8_t first[HARBOUR_BOATS] = { 0 };
     make_zebra(&problem, 0);
-    allowance = UINT64_MAX;
-    uint64_t plans = count_plans(&problem, first);
-    outcome o = agreed("zebra", 0, 1);
-    if (problem.pairs != 61 || plans != 11 || o.answer != 0 || memcmp(first, o.plan, problem.boats) != 0) {
-        printf("DIFFER: the zebra has %zu pairs and %llu plans\n", problem.pairs, (unsigned long long)plans);
+    allowance = HARBOUR_AMPLE;
+    size_t pairs = problem.made.pair_bytes / 2;
+    uint64_t plans = count_plans(&problem.made, first);
+    outcome o = agreed("zebra", 0, HARBOUR_BT);
+    if (pairs != 61 || plans != 11 || o.reply.answer != HARBOUR_SOLVED || memcmp(first, o.plan, sizeof first) != 0) {
+        printf("DIFFER: the zebra has %zu pairs and %llu plans\n", pairs, (unsigned long long)plans);
         exit(1);
     }
     printf("The zebra has 61 pairs and 11 plans; the first of them is found.\n\n");
@@ -159,8 +136,7 @@ static void try_zebra(void)
 
 int main(int count, char **word)
 {
-    sums total[METHODS + 1];
-    memset(total, 0, sizeof total);
+    sums total[METHODS] = { 0 };
     try_zebra();
     printf("%-16s %-6s %11s %11s %17s %17s\n", "", "", "", "", "library, ns a", "plain C, ns a");
     printf("%-16s %-6s %11s %11s %8s %8s %8s %8s %6s\n", "family", "method", "checks", "trials", "check", "trial",
@@ -168,7 +144,7 @@ int main(int count, char **word)
     for (unsigned f = 0; f < family_count; f++)
         run_family(&families[f], count > 1 && strcmp(word[1], "each") == 0, total);
     printf("\n");
-    for (uint64_t m = 1; m <= METHODS; m++)
+    for (uint64_t m = HARBOUR_BT; m < METHODS; m++)
         print_sums("all together", m, &total[m]);
     printf("\nAnswers, counts and plans agree in all %u files.\n", file_count());
     return 0;

@@ -1,5 +1,5 @@
 /* All plans of some tables, one after the other. */
-#include "tables.h"
+#include "problems.h"
 
 #include <string.h>
 
@@ -7,9 +7,9 @@
 static int keeps(const tables *t, const uint8_t *slots, size_t i)
 {
     const uint64_t *rows = t->rows;
-    for (size_t k = 0; k < t->pairs; k++) {
-        size_t lower = t->pair[2 * k];
-        if (t->pair[2 * k + 1] == i && !(rows[slots[lower]] >> slots[i] & 1))
+    for (size_t k = 0; k < t->pair_bytes; k += 2) {
+        size_t lower = t->pairs[k];
+        if (t->pairs[k + 1] == i && !(rows[slots[lower]] >> slots[i] & 1))
             return 0;
         rows += t->sizes[lower];
     }
@@ -18,7 +18,7 @@ static int keeps(const tables *t, const uint8_t *slots, size_t i)
 
 static uint64_t count_from(const tables *t, uint8_t *slots, size_t i, uint64_t found, uint8_t *plan)
 {
-    if (i == t->boats) {
+    if (i == t->n) {
         if (!found)
             memcpy(plan, slots, i);
         return found + 1;
@@ -31,6 +31,6 @@ static uint64_t count_from(const tables *t, uint8_t *slots, size_t i, uint64_t f
 
 uint64_t count_plans(const tables *t, uint8_t *plan)
 {
-    uint8_t slots[BOATS];
+    uint8_t slots[HARBOUR_BOATS];
     return count_from(t, slots, 0, 0, plan);
 }

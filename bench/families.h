@@ -2,13 +2,13 @@
 #ifndef FAMILIES_H
 #define FAMILIES_H
 
-#include "tables.h"
+#include "problems.h"
 
 typedef struct {
     const char *name;
     unsigned files;
     uint64_t allowance; /* of checks, and of trials */
-    void (*make)(tables *t, unsigned file);
+    void (*make)(draft *d, unsigned file);
 } family;
 
 extern const family families[];

@@ -2,10 +2,6 @@
 
 #include <string.h>
 
-enum { BOATS = 64, SLOTS = 64, PAIRS = 2016 };
-enum { SOLVED, NO_PLAN, OUT_OF_CHECKS, OUT_OF_TRIALS };
-enum { BT = 1, CBJ, BM, FC, FC_CBJ };
-
 #define INLINE static inline __attribute__((always_inline))
 
 /* A listed pair as one of its boats sees it; before is for looking ahead: where the other boat's live word stands. */
@@ -18,8 +14,8 @@ typedef struct {
 typedef struct {
     size_t n;
     const uint8_t *sizes;
-    uint16_t first[BOATS + 1];
-    link links[PAIRS];
+    uint16_t first[HARBOUR_BOATS + 1];
+    link links[HARBOUR_PAIRS];
 } index_of;
 
 /* What is left of both allowances. */
@@ -27,22 +23,32 @@ typedef struct {
     uint64_t checks, trials;
 } allowance;
 
-INLINE plain_reply reply(uint64_t answer, allowance given, uint64_t checks, uint64_t trials)
+INLINE harbour_reply reply(uint64_t answer, allowance given, uint64_t checks, uint64_t trials)
 {
-    return (plain_reply){ answer, given.checks - checks, given.trials - trials };
+    return (harbour_reply){ answer, 0, given.checks - checks, given.trials - trials };
 }
 
-INLINE plain_reply solved(const uint64_t *held, size_t n, uint8_t *plan, allowance given, uint64_t checks,
-                          uint64_t trials)
+INLINE harbour_reply solved(const uint64_t *held, size_t n, uint8_t *plan, allowance given, uint64_t checks,
+                            uint64_t trials)
 {
     for (size_t i = 0; i < n; i++)
         plan[i] = (uint8_t)held[i];
-    return reply(SOLVED, given, checks, trials);
+    return reply(HARBOUR_SOLVED, given, checks, trials);
 }
 
 INLINE size_t deepest(uint64_t set)
 {
     return 63 - (size_t)__builtin_clzll(set);
+}
+
+/* The boat that a search goes back to; who else is to blame goes along. */
+INLINE size_t back(int jumps, size_t i, const uint64_t *set, uint64_t *conflicts)
+{
+    if (!jumps)
+        return i - 1;
+    const size_t to = deepest(*conflicts);
+    *conflicts = (set[to] | *conflicts) & ~(1ull << to);
+    return to;
 }
 
 /* The builtin is a call where the processor may lack the instruction; this is not. */
@@ -54,20 +60,21 @@ INLINE uint64_t ones(uint64_t x)
 }
 
 /* under: 1 for each pair under its higher boat, 0 under its lower. */
-static void make_index(index_of *x, int under, const uint8_t *sizes, size_t n, const uint8_t *pairs, size_t count,
-                       const uint64_t *rows)
+static void make_index(index_of *x, int under, const tables *of)
 {
-    uint16_t next[BOATS + 1] = { 0 };
-    x->n = n;
-    x->sizes = sizes;
-    for (size_t k = 0; k < count; k++)
-        next[pairs[2 * k + under] + 1]++;
-    for (size_t i = 0; i < n; i++)
+    uint16_t next[HARBOUR_BOATS + 1] = { 0 };
+    const uint64_t *rows = of->rows;
+    const uint8_t *end = of->pairs + of->pair_bytes;
+    x->n = of->n;
+    x->sizes = of->sizes;
+    for (const uint8_t *pair = of->pairs; pair < end; pair += 2)
+        next[pair[under] + 1]++;
+    for (size_t i = 0; i < of->n; i++)
         next[i + 1] += next[i];
     memcpy(x->first, next, sizeof next);
-    for (size_t k = 0; k < count; k++) {
-        x->links[next[pairs[2 * k + under]]++] = (link){ rows, pairs[2 * k + 1 - under], 0 };
-        rows += sizes[pairs[2 * k]];
+    for (const uint8_t *pair = of->pairs; pair < end; pair += 2) {
+        x->links[next[pair[under]]++] = (link){ rows, pair[1 - under], 0 };
+        rows += of->sizes[pair[0]];
     }
 }
 
@@ -85,9 +92,9 @@ INLINE const link *failing(const link *l, const link *end, const uint64_t *held,
 }
 
 /* BT and CBJ. */
-INLINE plain_reply look_back(int jumps, const index_of *x, uint8_t *plan, allowance given)
+INLINE harbour_reply look_back(int jumps, const index_of *x, uint8_t *plan, allowance given)
 {
-    uint64_t held[BOATS], set[BOATS];
+    uint64_t held[HARBOUR_BOATS], set[HARBOUR_BOATS];
     uint64_t checks = given.checks, trials = given.trials, slot = 0, conflicts = 0;
     size_t i = 0;
     while (i < x->n) {
@@ -95,11 +102,11 @@ INLINE plain_reply look_back(int jumps, const index_of *x, uint8_t *plan, allowa
         const uint64_t size = x->sizes[i];
         for (; slot < size; slot++) {
             if (!trials)
-                return reply(OUT_OF_TRIALS, given, checks, trials);
+                return reply(HARBOUR_UNDECIDED_BY_TRIALS, given, checks, trials);
             trials--;
             const link *l = failing(first, end, held, slot, &checks);
             if (!l)
-                return reply(OUT_OF_CHECKS, given, checks, trials);
+                return reply(HARBOUR_UNDECIDED_BY_CHECKS, given, checks, trials);
             if (l == end)
                 break;
             if (jumps)
@@ -112,17 +119,15 @@ INLINE plain_reply look_back(int jumps, const index_of *x, uint8_t *plan, allowa
             continue;
         }
         if (jumps ? !conflicts : !i)
-            return reply(NO_PLAN, given, checks, trials);
-        i = jumps ? deepest(conflicts) : i - 1;
-        if (jumps)
-            conflicts = (set[i] | conflicts) & ~(1ull << i);
+            return reply(HARBOUR_NO_PLAN, given, checks, trials);
+        i = back(jumps, i, set, &conflicts);
         slot = held[i] + 1;
     }
     return solved(held, x->n, plan, given, checks, trials);
 }
 
 /* For each boat and b: how many of its pairs stand before boat b. */
-static void make_ranks(uint8_t rank[BOATS][BOATS], const index_of *x)
+static void make_ranks(uint8_t rank[HARBOUR_BOATS][HARBOUR_BOATS], const index_of *x)
 {
     for (size_t i = 0; i < x->n; i++) {
         const link *first = x->links + x->first[i], *end = x->links + x->first[i + 1], *l = first;
@@ -134,11 +139,19 @@ static void make_ranks(uint8_t rank[BOATS][BOATS], const index_of *x)
     }
 }
 
-/* BM. */
-static plain_reply marking(const index_of *x, uint8_t *plan, allowance given)
+/* Every b(j) down to the boat before i: as b(j) is below j, those of the boats before i stay as they are. */
+INLINE void lower(uint8_t low[HARBOUR_BOATS], size_t i, uint8_t before)
 {
-    uint64_t held[BOATS];
-    uint8_t rank[BOATS][BOATS], mark[BOATS][SLOTS], low[BOATS] = { 0 };
+    for (size_t j = 0; j < HARBOUR_BOATS; j++)
+        low[j] = low[j] < before ? low[j] : before;
+    low[i] = before;
+}
+
+/* BM. */
+static harbour_reply marking(const index_of *x, uint8_t *plan, allowance given)
+{
+    uint64_t held[HARBOUR_BOATS];
+    uint8_t rank[HARBOUR_BOATS][HARBOUR_BOATS], mark[HARBOUR_BOATS][HARBOUR_SLOTS], low[HARBOUR_BOATS] = { 0 };
     uint64_t checks = given.checks, trials = given.trials, slot = 0;
     size_t i = 0;
     make_ranks(rank, x);
@@ -148,13 +161,13 @@ static plain_reply marking(const index_of *x, uint8_t *plan, allowance given)
         const link *first = x->links + x->first[i] + rank[i][b], *end = x->links + x->first[i + 1];
         for (; slot < size; slot++) {
             if (!trials)
-                return reply(OUT_OF_TRIALS, given, checks, trials);
+                return reply(HARBOUR_UNDECIDED_BY_TRIALS, given, checks, trials);
             trials--;
             if (mark[i][slot] < b)
                 continue;
             const link *l = failing(first, end, held, slot, &checks);
             if (!l)
-                return reply(OUT_OF_CHECKS, given, checks, trials);
+                return reply(HARBOUR_UNDECIDED_BY_CHECKS, given, checks, trials);
             mark[i][slot] = l == end ? before : (uint8_t)l->boat;
             if (l == end)
                 break;
@@ -165,11 +178,8 @@ static plain_reply marking(const index_of *x, uint8_t *plan, allowance given)
             continue;
         }
         if (!i)
-            return reply(NO_PLAN, given, checks, trials);
-        /* b(j) is below j, so that the boats before i stay as they are */
-        for (size_t j = 0; j < BOATS; j++)
-            low[j] = low[j] < before ? low[j] : before;
-        low[i--] = before;
+            return reply(HARBOUR_NO_PLAN, given, checks, trials);
+        lower(low, i--, before);
         slot = held[i] + 1;
     }
     return solved(held, x->n, plan, given, checks, trials);
@@ -177,21 +187,21 @@ static plain_reply marking(const index_of *x, uint8_t *plan, allowance given)
 
 /* A live word for each boat at the start, then one for what each pair's trial leaves: nothing is put back. */
 typedef struct {
-    uint64_t live[BOATS + PAIRS], blame[BOATS + PAIRS];
-    uint32_t last[BOATS];
+    uint64_t live[HARBOUR_BOATS + HARBOUR_PAIRS], blame[HARBOUR_BOATS + HARBOUR_PAIRS];
+    uint32_t last[HARBOUR_BOATS];
 } words_of;
 
 static void make_words(words_of *w, index_of *x)
 {
     for (size_t j = 0; j < x->n; j++) {
-        w->live[j] = ~0ull >> (64 - x->sizes[j]);
+        w->live[j] = ~0ull >> (HARBOUR_SLOTS - x->sizes[j]);
         w->blame[j] = 0;
         w->last[j] = (uint32_t)j;
     }
     for (size_t k = 0; k < x->first[x->n]; k++) {
         uint32_t *last = &w->last[x->links[k].boat];
         x->links[k].before = *last;
-        *last = (uint32_t)(BOATS + k);
+        *last = (uint32_t)(HARBOUR_BOATS + k);
     }
 }
 
@@ -214,24 +224,24 @@ INLINE const link *emptied(int jumps, const link *l, const link *end, words_of *
 }
 
 /* FC and FC-CBJ. */
-INLINE plain_reply look_ahead(int jumps, index_of *x, uint8_t *plan, allowance given)
+INLINE harbour_reply look_ahead(int jumps, index_of *x, uint8_t *plan, allowance given)
 {
     words_of w;
-    uint64_t held[BOATS], set[BOATS];
+    uint64_t held[HARBOUR_BOATS], set[HARBOUR_BOATS];
     uint64_t checks = given.checks, trials = given.trials, conflicts = 0, from = ~0ull;
     size_t i = 0;
     make_words(&w, x);
     while (i < x->n) {
         const link *first = x->links + x->first[i], *end = x->links + x->first[i + 1];
-        const size_t to = BOATS + x->first[i];
+        const size_t to = HARBOUR_BOATS + x->first[i];
         uint64_t rest = w.live[w.last[i]] & from;
         for (; rest; rest &= rest - 1) {
             if (!trials)
-                return reply(OUT_OF_TRIALS, given, checks, trials);
+                return reply(HARBOUR_UNDECIDED_BY_TRIALS, given, checks, trials);
             trials--;
             const link *l = emptied(jumps, first, end, &w, to, (uint64_t)__builtin_ctzll(rest), i, &checks);
             if (!l)
-                return reply(OUT_OF_CHECKS, given, 0, trials);
+                return reply(HARBOUR_UNDECIDED_BY_CHECKS, given, 0, trials);
             if (l == end)
                 break;
             if (jumps)
@@ -247,26 +257,29 @@ INLINE plain_reply look_ahead(int jumps, index_of *x, uint8_t *plan, allowance g
         if (jumps)
             conflicts |= w.blame[w.last[i]];
         if (jumps ? !conflicts : !i)
-            return reply(NO_PLAN, given, checks, trials);
-        i = jumps ? deepest(conflicts) : i - 1;
-        if (jumps)
-            conflicts = (set[i] | conflicts) & ~(1ull << i);
+            return reply(HARBOUR_NO_PLAN, given, checks, trials);
+        i = back(jumps, i, set, &conflicts);
         from = ~1ull << held[i];
     }
     return solved(held, x->n, plan, given, checks, trials);
 }
 
-plain_reply plain_run(uint64_t method, const uint8_t *sizes, size_t n, const uint8_t *pairs, size_t pair_bytes,
-                      const uint64_t *rows, uint8_t *plan, uint64_t checks, uint64_t trials)
+INLINE harbour_reply searched(const tables *of, uint64_t method, uint8_t *plan, allowance given)
 {
     index_of x;
-    allowance given = { checks, trials };
-    make_index(&x, method < FC, sizes, n, pairs, pair_bytes / 2, rows);
+    make_index(&x, method < HARBOUR_FC, of);
     switch (method) {
-    case BT: return look_back(0, &x, plan, given);
-    case CBJ: return look_back(1, &x, plan, given);
-    case BM: return marking(&x, plan, given);
-    case FC: return look_ahead(0, &x, plan, given);
+    case HARBOUR_BT: return look_back(0, &x, plan, given);
+    case HARBOUR_CBJ: return look_back(1, &x, plan, given);
+    case HARBOUR_BM: return marking(&x, plan, given);
+    case HARBOUR_FC: return look_ahead(0, &x, plan, given);
     default: return look_ahead(1, &x, plan, given);
     }
+}
+
+outcome plain_run(const draft *of, uint64_t method, uint64_t checks, uint64_t trials)
+{
+    outcome got = { 0 };
+    got.reply = searched(&of->made, method, got.plan, (allowance){ checks, trials });
+    return got;
 }

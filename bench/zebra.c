@@ -1,5 +1,5 @@
 /* Source 000's zebra: 25 boats, 61 pairs, 11 plans. A slot is a house, from the first that the boat may take on. */
-#include "tables.h"
+#include "problems.h"
 
 enum { THINGS = 25, HOUSES = 5 };
 
@@ -65,25 +65,26 @@ static void shuffle(uint8_t *things, uint64_t seed)
     }
 }
 
-void make_zebra(tables *t, uint64_t order)
+void make_zebra(draft *d, unsigned order)
 {
     uint8_t thing[THINGS];
-    start_tables(t, THINGS, HOUSES);
+    start_draft(d);
     for (size_t i = 0; i < THINGS; i++)
         thing[i] = (uint8_t)i;
     if (order)
         shuffle(thing, seed_of(order));
     for (size_t i = 0; i < THINGS; i++)
-        t->sizes[i] = (uint8_t)houses_of(thing[i]);
+        add_boats(d, 1, houses_of(thing[i]));
     for (size_t i = 0; i < THINGS; i++)
         for (size_t j = i + 1; j < THINGS; j++) {
             relation r = between(thing[i], thing[j]);
             if (r == FREE)
                 continue;
-            uint64_t *rows = add_pair(t, i, j);
-            for (int a = 0; a < t->sizes[i]; a++)
-                for (int b = 0; b < t->sizes[j]; b++)
+            uint64_t rows[HOUSES] = { 0 };
+            for (int a = 0; a < d->sizes[i]; a++)
+                for (int b = 0; b < d->sizes[j]; b++)
                     if (holds(r, first_house(thing[i]) + a, first_house(thing[j]) + b))
                         rows[a] |= 1ull << b;
+            add_pair(d, i, j, rows);
         }
 }

@@ -18,23 +18,23 @@ static void draw_needs(const boat *boat) {
     puts(*between == '\0' ? "-" : "");
 }
 
-static void draw_boat(const tables *of, size_t at) {
+static void draw_boat(const problem *of, size_t at) {
     const boat *boat = &of->port->boats[at];
-    printf("  %-8s %d-%d  %6u   ", boat->name, boat->from, boat->until, of->sizes[at]);
+    printf("  %-8s %d-%d  %6u   ", boat->name, boat->from, boat->until, of->draft.sizes[at]);
     draw_needs(boat);
 }
 
-void draw_port(const tables *of) {
+void draw_port(const problem *of) {
     size_t n = of->port->n;
     puts("  boat     hours  berths   needs");
     for (size_t boat = 0; boat < n; boat++) draw_boat(of, boat);
     puts("\n  The house rules, and how many pairings of berths each shuts out:");
     for (int rule = 0; rule < NO_RULE; rule++) printf("  %5u  %s\n", of->forbidden[rule], rule_said[rule]);
     printf("  A deep boat has no berth at Inner. Of %zu pairs of boats, rules touch %zu.\n", n * (n - 1) / 2,
-        of->pair_bytes / 2);
+        of->draft.made.pair_bytes / 2);
 }
 
-static const char *boat_at(const tables *of, const uint8_t *plan, int hour, int quay) {
+static const char *boat_at(const problem *of, const uint8_t *plan, int hour, int quay) {
     for (size_t boat = 0; boat < of->port->n; boat++) {
         berth at = of->slots[boat][plan[boat]];
         if (at.hour == hour && at.quay == quay) return of->port->boats[boat].name;
@@ -42,7 +42,7 @@ static const char *boat_at(const tables *of, const uint8_t *plan, int hour, int 
     return ".";
 }
 
-void draw_plan(const tables *of, const uint8_t *plan) {
+void draw_plan(const problem *of, const uint8_t *plan) {
     const port *port = of->port;
     printf("\n         ");
     for (int quay = 0; quay < port->quay_count; quay++) printf("| %-9s", port->quays[quay]);

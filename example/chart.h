@@ -2,12 +2,12 @@
 #ifndef CHART_H
 #define CHART_H
 
-#include "tables.h"
+#include "problem.h"
 
 /* The boats, their hours and needs, and what each rule shuts out. */
-void draw_port(const tables *of);
+void draw_port(const problem *of);
 
 /* Hours down, quays across, and the boats in their berths. */
-void draw_plan(const tables *of, const uint8_t *plan);
+void draw_plan(const problem *of, const uint8_t *plan);
 
 #endif

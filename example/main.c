@@ -6,51 +6,49 @@
 #include "savings.h"
 #include "say.h"
 
-static tables made;
+static problem made;
 
 static int plan_tonight(void) {
+    const tables *t = &made.draft.made;
     uint8_t plan[HARBOUR_BOATS];
-    make_tables(&made, &tonight);
+    make_problem(&made, &tonight);
     puts("THE HARBOUR TONIGHT: ten boats, quays North, South and Inner, 17:00 to 21:00");
     draw_port(&made);
     puts("\nEVERY METHOD, each held to the plain one above it");
     int as_promised = show_savings(&made, plan);
     puts("\nTHE PLAN, the first by the order of boats and berths");
     draw_plan(&made, plan);
-    harbour_reply lawful = harbour_lawful(made.sizes, made.port->n, made.pairs, made.pair_bytes, made.rows,
-        made.row_words, plan, made.port->n);
+    harbour_reply lawful = harbour_lawful(t->sizes, t->n, t->pairs, t->pair_bytes, t->rows, t->row_words, plan, t->n);
     printf("  Asked again as a given plan, it is %s.\n", lawful.answer == HARBOUR_LAWFUL ? "lawful" : "NOT LAWFUL");
     return as_promised && lawful.answer == HARBOUR_LAWFUL;
 }
 
+/* Runs a method, says the reply and holds it to the answer that is due. */
+static int answered(uint64_t method, uint64_t checks, uint64_t due) {
+    harbour_reply reply = run(&made.draft, method, checks, HARBOUR_AMPLE).reply;
+    say(&made, reply, checks, HARBOUR_AMPLE);
+    return reply.answer == due;
+}
+
 static int run_out_of_checks(void) {
     const uint64_t allowed = 500;
-    uint8_t plan[HARBOUR_BOATS];
-    make_tables(&made, &tonight);
+    make_problem(&made, &tonight);
     printf("\nTHE SAME HARBOUR, by BT with an allowance of %" PRIu64 " checks\n", allowed);
-    harbour_reply reply = run(&made, HARBOUR_BT, plan, allowed, HARBOUR_AMPLE);
-    say(&made, reply, allowed, HARBOUR_AMPLE);
-    return reply.answer == HARBOUR_UNDECIDED_BY_CHECKS;
+    return answered(HARBOUR_BT, allowed, HARBOUR_UNDECIDED_BY_CHECKS);
 }
 
 static int too_many_boats(void) {
-    uint8_t plan[HARBOUR_BOATS];
-    make_tables(&made, &fuel_pier);
+    make_problem(&made, &fuel_pier);
     puts("\nTHE FUEL PIER: Heron, Merlin and Osprey at 06:00, and two berths, East and West");
-    harbour_reply reply = run(&made, HARBOUR_CBJ, plan, HARBOUR_AMPLE, HARBOUR_AMPLE);
-    say(&made, reply, HARBOUR_AMPLE, HARBOUR_AMPLE);
-    return reply.answer == HARBOUR_NO_PLAN;
+    return answered(HARBOUR_CBJ, HARBOUR_AMPLE, HARBOUR_NO_PLAN);
 }
 
 static int a_pair_turned(void) {
-    uint8_t plan[HARBOUR_BOATS];
-    make_tables(&made, &fuel_pier);
-    made.pairs[2] = 2;
-    made.pairs[3] = 0;
+    make_problem(&made, &fuel_pier);
+    made.draft.pairs[2] = 2;
+    made.draft.pairs[3] = 0;
     puts("\nTHE FUEL PIER, with one pair written down the wrong way round");
-    harbour_reply reply = run(&made, HARBOUR_CBJ, plan, HARBOUR_AMPLE, HARBOUR_AMPLE);
-    say(&made, reply, HARBOUR_AMPLE, HARBOUR_AMPLE);
-    return reply.answer == HARBOUR_REFUSED_PAIR;
+    return answered(HARBOUR_CBJ, HARBOUR_AMPLE, HARBOUR_REFUSED_PAIR);
 }
 
 int main(void) {

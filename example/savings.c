@@ -19,11 +19,6 @@ static const method methods[] = {
 
 enum { METHODS = sizeof methods / sizeof methods[0] };
 
-typedef struct {
-    harbour_reply reply;
-    uint8_t plan[HARBOUR_BOATS];
-} result;
-
 static void show_saved(uint64_t plain, uint64_t spent) {
     uint64_t percent = plain == 0 ? 0 : (100 * (plain - spent) + plain / 2) / plain;
     printf("%8" PRIu64 " (%2" PRIu64 "%%)", plain - spent, percent);
@@ -44,14 +39,13 @@ static int no_worse(harbour_reply reply, harbour_reply held_to) {
     return reply.answer == held_to.answer && reply.checks <= held_to.checks && reply.trials <= held_to.trials;
 }
 
-int show_savings(const tables *of, uint8_t *plan) {
-    result results[METHODS];
+int show_savings(const problem *of, uint8_t *plan) {
+    outcome results[METHODS];
     int as_promised = 1;
-    memset(results, 0, sizeof results);
     printf("  %-23s %7s %7s%14s%14s   plan\n", "method", "checks", "trials", "checks saved", "trials saved");
     for (size_t at = 0; at < METHODS; at++) {
-        result *got = &results[at];
-        got->reply = run(of, methods[at].number, got->plan, HARBOUR_AMPLE, HARBOUR_AMPLE);
+        outcome *got = &results[at];
+        *got = run(&of->draft, methods[at].number, HARBOUR_AMPLE, HARBOUR_AMPLE);
         harbour_reply held_to = results[methods[at].held_to - 1].reply;
         int same_plan = memcmp(got->plan, results[0].plan, of->port->n) == 0;
         show_one(&methods[at], got->reply, held_to, same_plan);

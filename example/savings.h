@@ -2,9 +2,9 @@
 #ifndef SAVINGS_H
 #define SAVINGS_H
 
-#include "tables.h"
+#include "problem.h"
 
 /* Writes the first method's plan; gives back whether every method found it and none spent more. */
-int show_savings(const tables *of, uint8_t *plan);
+int show_savings(const problem *of, uint8_t *plan);
 
 #endif

@@ -12,12 +12,12 @@ static const char *const wrong[] = {
     "the given plan has not one slot for each boat", "the given plan has a slot that the boat does not have",
 };
 
-static const char *boat_named(const tables *of, uint8_t boat) {
+static const char *boat_named(const problem *of, uint8_t boat) {
     return boat < of->port->n ? of->port->boats[boat].name : "a boat that is not there";
 }
 
-static void say_where(const tables *of, harbour_reply reply) {
-    const uint8_t *pair = of->pairs + 2 * reply.place;
+static void say_where(const problem *of, harbour_reply reply) {
+    const uint8_t *pair = of->draft.pairs + 2 * reply.place;
     switch (reply.answer) {
     case HARBOUR_REFUSED_SIZE:
     case HARBOUR_REFUSED_GIVEN_SLOT:
@@ -33,7 +33,7 @@ static void say_where(const tables *of, harbour_reply reply) {
     }
 }
 
-static void say_refused(const tables *of, harbour_reply reply) {
+static void say_refused(const problem *of, harbour_reply reply) {
     uint64_t number = reply.answer - HARBOUR_REFUSED;
     printf("  REFUSED, number %" PRIu64 " at place %" PRIu64 ": %s.\n", number, reply.place, wrong[number]);
     say_where(of, reply);
@@ -46,7 +46,7 @@ static void say_undecided(const char *what, uint64_t allowed, harbour_reply repl
         allowed, what, reply.checks, reply.trials);
 }
 
-void say(const tables *of, harbour_reply reply, uint64_t checks, uint64_t trials) {
+void say(const problem *of, harbour_reply reply, uint64_t checks, uint64_t trials) {
     switch (reply.answer) {
     case HARBOUR_SOLVED:
         printf("  A PLAN, found with %" PRIu64 " checks and %" PRIu64 " trials.\n", reply.checks, reply.trials);

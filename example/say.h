@@ -2,9 +2,9 @@
 #ifndef SAY_H
 #define SAY_H
 
-#include "tables.h"
+#include "problem.h"
 
 /* The allowances are those that the run had. */
-void say(const tables *of, harbour_reply reply, uint64_t checks, uint64_t trials);
+void say(const problem *of, harbour_reply reply, uint64_t checks, uint64_t trials);
 
 #endif

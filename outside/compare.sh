@@ -129,7 +129,7 @@ step "the stored vectors, made again" stored_made_again
 step "the library on the stored vectors" replies crates/vectors/stdin crates/vectors/stdout $built/library
 step "  under the sanitizers" replies crates/vectors/stdin crates/vectors/stdout $built/sanitized/library --exact
 for language in c cpp; do
-    step "every call by calls.$language" $built/calls_$language
+    step "every call from $language" $built/calls_$language
     step "  under valgrind" $checker $built/calls_$language --exact
     step "  under the sanitizers" $built/sanitized/calls_$language --exact
 done

@@ -25,7 +25,7 @@ static const expected cases[] = {
 };
 
 static void decided(void) {
-    for (size_t at = 0; at < sizeof cases / sizeof cases[0]; at++) {
+    for (size_t at = 0; at < LENGTH(cases); at++) {
         const expected *due = &cases[at];
         uint64_t answer = due->plan == NULL ? HARBOUR_NO_PLAN : HARBOUR_SOLVED;
         for (uint64_t method = HARBOUR_BT; method <= HARBOUR_FC_CBJ; method++) {
@@ -68,7 +68,7 @@ static void cut_short(void) {
 }
 
 static void examined(void) {
-    for (size_t at = 0; at < sizeof cases / sizeof cases[0]; at++) {
+    for (size_t at = 0; at < LENGTH(cases); at++) {
         examine_is(cases[at].name, cases[at].given, HARBOUR_FINE, 0);
     }
 }
@@ -81,7 +81,7 @@ static void judged(void) {
     }
     lawful_is("E, another lawful plan", &case_e, plan_110, 3, HARBOUR_LAWFUL, 0);
     broken_is("E, another lawful plan", &case_e, plan_110, 3, HARBOUR_UNBROKEN, 0);
-    for (size_t at = 0; at < sizeof cases / sizeof cases[0]; at++) {
+    for (size_t at = 0; at < LENGTH(cases); at++) {
         if (cases[at].plan == NULL) continue;
         lawful_is(cases[at].name, cases[at].given, cases[at].plan, cases[at].given->n, HARBOUR_LAWFUL, 0);
         broken_is(cases[at].name, cases[at].given, cases[at].plan, cases[at].given->n, HARBOUR_UNBROKEN, 0);
@@ -96,7 +96,7 @@ static void shown(void) {
     rows_are("rows of 1-2", &five_boats, 1, 2, 3, 2);
     rows_are("rows of 1-4", &five_boats, 1, 4, 5, 2);
     rows_are("rows of 3-4", &five_boats, 3, 4, 7, 1);
-    for (size_t at = 0; at < sizeof not_listed / sizeof not_listed[0]; at++) {
+    for (size_t at = 0; at < LENGTH(not_listed); at++) {
         rows_are("rows of no listed pair", &five_boats, not_listed[at][0], not_listed[at][1], 0, 0);
     }
     rows_are("rows of no boats", &case_a, 0, 0, 0, 0);

@@ -20,39 +20,32 @@ harbour_reply due_reply(uint64_t answer, uint64_t place, uint64_t checks, uint64
     return due;
 }
 
-static void reply_is(const char *what, harbour_reply got, harbour_reply due) {
+void reply_is(const char *what, harbour_reply got, harbour_reply due) {
     same(what, "answer", got.answer, due.answer);
     same(what, "place", got.place, due.place);
     same(what, "checks", got.checks, due.checks);
     same(what, "trials", got.trials, due.trials);
 }
 
-static void plan_memory_is(const char *what, const lent_part *lent, const uint8_t *plan, size_t n) {
-    size_t written = plan == NULL ? 0 : n;
-    for (size_t boat = 0; boat < written; boat++) same(what, "slot", bytes_of(lent)[boat], plan[boat]);
-    holds(what, "plan memory changed outside the promise", left_alone_from(lent, written));
+static void plan_is(const char *what, const lent_part *lent, const uint8_t *plan, size_t n) {
+    for (size_t boat = 0; plan != NULL && boat < n; boat++) same(what, "slot", bytes_of(lent)[boat], plan[boat]);
 }
 
-static void work_memory_is(const char *what, const lent_part *lent, int refused) {
+static void work_is_cleared(const char *what, const lent_part *lent, int refused) {
     size_t cleared = refused ? 0 : HARBOUR_WORK;
     size_t left = 0;
     for (size_t at = 0; at < cleared; at++) left += words_of(lent)[at] != 0;
     same(what, "working words that are not 0", left, 0);
-    holds(what, "working memory changed outside the promise", left_alone_from(lent, cleared * sizeof(uint64_t)));
 }
 
 void run_is(const char *what, const tables *given, terms under, harbour_reply due, const uint8_t *plan) {
     lent_tables lent = lend_tables(given);
-    lent_part plan_memory = lend_bytes(NULL, under.plan_bytes), work = lend_words(NULL, under.work_words);
-    tables t = tables_of(&lent);
-    harbour_reply got = harbour_run(under.method, t.sizes, t.n, t.pairs, t.pair_bytes, t.rows, t.row_words,
-        bytes_of(&plan_memory), under.plan_bytes, words_of(&work), under.work_words, under.checks, under.trials);
-    reply_is(what, got, due);
-    plan_memory_is(what, &plan_memory, plan, given->n);
-    work_memory_is(what, &work, due.answer >= HARBOUR_REFUSED);
-    tables_left_alone(what, &lent);
-    take_back(&plan_memory);
-    take_back(&work);
+    lent_run run = run_lent(&lent, under);
+    reply_is(what, run.reply, due);
+    plan_is(what, &run.plan, plan, given->n);
+    work_is_cleared(what, &run.work, due.answer >= HARBOUR_REFUSED);
+    run_left_alone(what, &run, due, &lent);
+    take_run_back(&run);
     take_tables_back(&lent);
 }
 

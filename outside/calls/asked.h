@@ -2,20 +2,14 @@
 #ifndef ASKED_H
 #define ASKED_H
 
-#include "harbour.h"
-#include "tables.h"
-
-/* All that a run is given beside the tables. */
-typedef struct {
-    uint64_t method;
-    size_t plan_bytes, work_words;
-    uint64_t checks, trials;
-} terms;
+#include "lent_run.h"
 
 /* Just enough memory, and allowances that never run out. */
 terms ample(uint64_t method, const tables *given);
 
 harbour_reply due_reply(uint64_t answer, uint64_t place, uint64_t checks, uint64_t trials);
+
+void reply_is(const char *what, harbour_reply got, harbour_reply due);
 
 /* The due plan is NULL unless solved. */
 void run_is(const char *what, const tables *given, terms under, harbour_reply due, const uint8_t *plan);

@@ -1,17 +1,18 @@
-/* calls [--exact]: every function of the header called from C, with good and bad input. */
+/* calls [--exact]: every function of the header called, with good and bad input, from C or from C++. */
 #include "calls.h"
-
-#include <string.h>
 
 #include "lent.h"
 #include "tally.h"
 
 int main(int words, char **word) {
-    if (words == 2 && strcmp(word[1], "--exact") == 0) lend_exactly();
+    lend_as_told(words, word);
     layout();
     answers();
     refusals();
     several_faults();
     nothing_lent();
+#ifdef __cplusplus
+    with_containers();
+#endif
     return tally_told();
 }

@@ -1,14 +1,12 @@
-// calls [--exact]: every function of the header called from C++, with what only C++ can say of it.
+// What only C++ can say of the header.
 #include <array>
 #include <cstddef>
 #include <cstdint>
-#include <cstring>
 #include <type_traits>
 #include <vector>
 
 #include "calls.h"
 #include "harbour.h"
-#include "lent.h"
 #include "tally.h"
 
 using bytes = const std::uint8_t *;
@@ -26,10 +24,8 @@ static_assert(std::is_same_v<decltype(harbour_rows), harbour_part(bytes, size, b
 static_assert(std::is_standard_layout_v<harbour_reply> && std::is_trivially_copyable_v<harbour_reply>);
 static_assert(std::is_standard_layout_v<harbour_part> && std::is_trivially_copyable_v<harbour_part>);
 
-namespace {
-
 // Case C: two boats, two slots each, never the same one.
-void with_containers() {
+void with_containers(void) {
     const std::vector<std::uint8_t> sizes{2, 2}, pairs{0, 1};
     const std::vector<u64> rows{2, 1};
     std::vector<std::uint8_t> plan(sizes.size());
@@ -46,17 +42,4 @@ void with_containers() {
         holds("containers", "another plan", plan == std::vector<std::uint8_t>{0, 1});
         holds("containers", "working words left", work == std::vector<u64>(HARBOUR_WORK));
     }
-}
-
-}  // namespace
-
-int main(int words_given, char **word) {
-    if (words_given == 2 && std::strcmp(word[1], "--exact") == 0) lend_exactly();
-    layout();
-    answers();
-    refusals();
-    several_faults();
-    nothing_lent();
-    with_containers();
-    return tally_told();
 }

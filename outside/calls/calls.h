@@ -1,6 +1,8 @@
-/* What calls.c (C) and calls.cpp (C++) both go through. All files here are C and C++ at once. */
+/* What calls.c goes through. The C files here are C and C++ at once; calls.cpp comes along with C++. */
 #ifndef CALLS_H
 #define CALLS_H
+
+#define LENGTH(list) (sizeof(list) / sizeof(list)[0])
 
 /* Sizes, offsets, constants and function types of the header. */
 void layout(void);
@@ -14,5 +16,10 @@ void several_faults(void);
 
 /* NULL with length 0 for each part. */
 void nothing_lent(void);
+
+#ifdef __cplusplus
+/* The library beside the containers of C++. */
+void with_containers(void);
+#endif
 
 #endif

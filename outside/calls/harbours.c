@@ -2,6 +2,8 @@
 
 #include <string.h>
 
+#include "harbour.h"
+
 /* Rows by which two boats of two slots each never take the same one, as often as a case needs. */
 static const uint64_t apart[] = {2, 1, 2, 1, 2, 1};
 
@@ -22,15 +24,15 @@ static const uint8_t five_sizes[] = {3, 2, 2, 1, 2}, five_pairs[] = {0, 2, 1, 2,
 static const uint64_t five_rows[] = {2, 1, 2, 1, 2, 3, 2, 1};
 const tables five_boats = {five_sizes, 5, five_pairs, 8, five_rows, 8};
 
-enum { MOST_BOATS = 64, MOST_PAIRS = 2016, SOME_MORE = 512 };
+enum { SOME_MORE = 512 };
 
 tables crowd(size_t boats, size_t pair_bytes, size_t row_words) {
-    static uint8_t sizes[SOME_MORE], pairs[2 * MOST_PAIRS + SOME_MORE];
-    static uint64_t rows[MOST_PAIRS + SOME_MORE];
+    static uint8_t sizes[SOME_MORE], pairs[2 * HARBOUR_PAIRS + SOME_MORE];
+    static uint64_t rows[HARBOUR_PAIRS + SOME_MORE];
     size_t pair = 0;
     memset(sizes, 1, sizeof sizes);
-    for (size_t lower = 0; lower < MOST_BOATS; lower++) {
-        for (size_t higher = lower + 1; higher < MOST_BOATS; higher++) {
+    for (size_t lower = 0; lower < HARBOUR_BOATS; lower++) {
+        for (size_t higher = lower + 1; higher < HARBOUR_BOATS; higher++) {
             pairs[2 * pair] = (uint8_t)lower;
             pairs[2 * pair + 1] = (uint8_t)higher;
             rows[pair] = 1;

@@ -66,7 +66,7 @@ static void constants(void) {
         {"HARBOUR_REFUSED_GIVEN_LENGTH", HARBOUR_REFUSED_GIVEN_LENGTH, 110},
         {"HARBOUR_REFUSED_GIVEN_SLOT", HARBOUR_REFUSED_GIVEN_SLOT, 111},
     };
-    for (size_t at = 0; at < sizeof list / sizeof list[0]; at++) {
+    for (size_t at = 0; at < LENGTH(list); at++) {
         same(list[at].name, "value", list[at].value, list[at].due);
     }
 }

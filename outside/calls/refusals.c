@@ -2,8 +2,6 @@
 #include "calls.h"
 #include "harbours.h"
 
-#define LENGTH(list) (sizeof(list) / sizeof(list)[0])
-
 static void solved_by_all(const char *what, const tables *given, uint64_t checks) {
     static const uint8_t first[HARBOUR_BOATS] = {0};
     for (uint64_t method = HARBOUR_BT; method <= HARBOUR_FC_CBJ; method++) {

@@ -10,8 +10,8 @@ enum { WORD_GUARD = 64, BYTE_GUARD = 61 };
 static int exactly;
 static uint64_t state = 1;
 
-void lend_exactly(void) {
-    exactly = 1;
+void lend_as_told(int words, char **word) {
+    exactly = words == 2 && strcmp(word[1], "--exact") == 0;
 }
 
 /* Every part is filled differently, since what it held must have no effect. */
@@ -20,7 +20,7 @@ static uint64_t next_word(void) {
     return state ^ state >> 29;
 }
 
-static void *memory(size_t bytes) {
+void *memory(size_t bytes) {
     void *block = bytes == 0 ? NULL : malloc(bytes);
     if (block == NULL && bytes != 0) {
         fputs("no memory\n", stderr);
@@ -45,33 +45,22 @@ static lent_part lend(size_t guard, size_t bytes) {
     return made;
 }
 
-static void fill(lent_part *lent, const void *from) {
-    if (lent->length == 0) return;
-    memcpy(lent->part, from, lent->length);
-    memcpy(lent->before, from, lent->length);
+/* What the part holds now is what it is compared with later. */
+static lent_part kept(lent_part lent) {
+    if (lent.length != 0) memcpy(lent.before, lent.part, lent.length);
+    return lent;
 }
 
 lent_part lend_bytes(const uint8_t *from, size_t bytes) {
     lent_part made = lend(BYTE_GUARD, bytes);
-    if (from == NULL) {
-        for (size_t at = 0; at < bytes; at++) made.before[at] = (unsigned char)(next_word() | 64);
-        if (bytes != 0) memcpy(made.part, made.before, bytes);
-        return made;
-    }
-    fill(&made, from);
-    return made;
+    for (size_t at = 0; at < bytes; at++) made.part[at] = from != NULL ? from[at] : (uint8_t)(next_word() | 64);
+    return kept(made);
 }
 
 lent_part lend_words(const uint64_t *from, size_t words) {
     lent_part made = lend(WORD_GUARD, words * sizeof(uint64_t));
-    if (from == NULL) {
-        uint64_t *part = words_of(&made);
-        for (size_t at = 0; at < words; at++) part[at] = next_word() | 1;
-        if (words != 0) memcpy(made.before, part, made.length);
-        return made;
-    }
-    fill(&made, from);
-    return made;
+    for (size_t at = 0; at < words; at++) words_of(&made)[at] = from != NULL ? from[at] : next_word() | 1;
+    return kept(made);
 }
 
 uint8_t *bytes_of(const lent_part *lent) {

@@ -10,9 +10,12 @@ typedef struct {
     size_t front, length, back;
 } lent_part;
 
-/* From here on blocks are just as long as their parts, and a part of length 0 is NULL: a memory
- * checker then sees the first byte read or written outside a part. */
-void lend_exactly(void);
+/* Where the program was called with --exact, blocks are just as long as their parts, and a part of
+ * length 0 is NULL: a memory checker then sees the first byte read or written outside a part. */
+void lend_as_told(int words, char **word);
+
+/* NULL for no bytes; ends the program where there is no memory. */
+void *memory(size_t bytes);
 
 /* The part holds what `from` holds, or, where that is NULL, bytes of 64 and above, which no slot is. */
 lent_part lend_bytes(const uint8_t *from, size_t bytes);

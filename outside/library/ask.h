@@ -2,7 +2,7 @@
 #ifndef ASK_H
 #define ASK_H
 
-#include "tables.h"
+#include "lent_tables.h"
 
 /* t: examines the tables that all later lines are about. */
 void ask_examine(const lent_tables *lent);

@@ -44,7 +44,7 @@ static void answer(char *line, lent_tables *lent) {
 }
 
 int main(int words, char **word) {
-    if (words == 2 && strcmp(word[1], "--exact") == 0) lend_exactly();
+    lend_as_told(words, word);
     const tables nothing = {NULL, 0, NULL, 0, NULL, 0};
     lent_tables lent = lend_tables(&nothing);
     char *line = NULL;

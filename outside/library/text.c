@@ -5,6 +5,8 @@
 #include <stdlib.h>
 #include <string.h>
 
+#include "lent.h"
+
 void no_line(const char *what) {
     fprintf(stderr, "not a line of problems: %.60s\n", what);
     exit(2);
@@ -30,12 +32,6 @@ static int none(const char *field) {
     return strcmp(field, "-") == 0;
 }
 
-static void *room(size_t bytes) {
-    void *memory = malloc(bytes);
-    if (memory == NULL) no_line("no memory for it");
-    return memory;
-}
-
 static unsigned digit(char of) {
     const char *digits = "0123456789abcdef";
     const char *found = of == '\0' ? NULL : strchr(digits, of);
@@ -45,7 +41,7 @@ static unsigned digit(char of) {
 
 uint8_t *hex_bytes(const char *field, size_t *bytes) {
     *bytes = none(field) ? 0 : strlen(field) / 2;
-    uint8_t *read = room(*bytes + 1);
+    uint8_t *read = memory(*bytes);
     for (size_t at = 0; at < *bytes; at++) {
         read[at] = (uint8_t)(16 * digit(field[2 * at]) + digit(field[2 * at + 1]));
     }
@@ -55,7 +51,7 @@ uint8_t *hex_bytes(const char *field, size_t *bytes) {
 uint64_t *hex_words(const char *field, size_t *words) {
     *words = none(field) ? 0 : 1;
     for (const char *at = field; *at != '\0'; at++) *words += *at == ',';
-    uint64_t *read = room((*words + 1) * sizeof *read);
+    uint64_t *read = memory(*words * sizeof *read);
     for (size_t at = 0; at < *words; at++) {
         char *end;
         read[at] = strtoull(field, &end, 16);

@@ -1,17 +1,9 @@
-/* A harbour's tables, and the same tables lent to a call. */
-#ifndef TABLES_H
-#define TABLES_H
+/* A harbour's tables, lent to a call. */
+#ifndef LENT_TABLES_H
+#define LENT_TABLES_H
 
 #include "lent.h"
-
-typedef struct {
-    const uint8_t *sizes;
-    size_t n;
-    const uint8_t *pairs;
-    size_t pair_bytes;
-    const uint64_t *rows;
-    size_t row_words;
-} tables;
+#include "tables.h"
 
 typedef struct {
     lent_part sizes, pairs, rows;

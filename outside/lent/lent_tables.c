@@ -1,4 +1,4 @@
-#include "tables.h"
+#include "lent_tables.h"
 
 #include "tally.h"
 

@@ -1,0 +1,33 @@
+/* Tables in the making, and a run on them. */
+#ifndef DRAFT_H
+#define DRAFT_H
+
+#include "harbour.h"
+#include "tables.h"
+
+/* Room for the largest harbour, and the tables that have been made in it. */
+typedef struct {
+    tables made;
+    uint8_t sizes[HARBOUR_BOATS], pairs[2 * HARBOUR_PAIRS];
+    uint64_t rows[HARBOUR_PAIRS * HARBOUR_SLOTS];
+} draft;
+
+/* No boats, and no pairs. */
+void start_draft(draft *in);
+
+/* So many boats more, all of one size. */
+void add_boats(draft *in, size_t boats, size_t size);
+
+/* The next pair in rising order, with a row for each slot of the lower boat. */
+void add_pair(draft *in, size_t lower, size_t higher, const uint64_t *rows);
+
+/* What a run comes to; the plan is all 0 unless solved. */
+typedef struct {
+    harbour_reply reply;
+    uint8_t plan[HARBOUR_BOATS];
+} outcome;
+
+/* A run with all the memory that it needs. */
+outcome run(const draft *of, uint64_t method, uint64_t checks, uint64_t trials);
+
+#endif
