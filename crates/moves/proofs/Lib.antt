@@ -1,5 +1,1 @@
-pub mod Stored
-pub mod Labels
-pub mod Backwards
-pub mod Jumping
 pub mod Prepared

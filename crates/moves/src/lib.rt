@@ -1,18 +1,11 @@
-// The moves of a search over the working words: forward, back, and what is made ready before the first.
+// The moves that a method is made of, and what is made ready before the first.
 ghost use mathlib.Core.Path.{_≡_};
 ghost use Rattle.moves.specs.Memory.{movesOf};
 
-mod labelled;
-mod labelling;
 mod preparing;
-mod storing;
-mod unlabelling;
 
-pub use labelled::Labelled;
-pub use labelling::label;
 pub use preparing::prepare;
 use problem::Method;
-pub use unlabelling::unlabel;
 use visits::Backward;
 
 // A forward move, and where it is open, a backward one.

@@ -23,7 +23,8 @@ use Rattle.words.proofs.ChangedOnly.{only-refl, only-trans}
 use Rattle.moves.specs.declared.Moves.{Moves}
 use Rattle.moves.specs.declared.Moves.the-variants.{LookingBack, Marking, LookingAhead}
 use Rattle.moves.specs.Memory.{Memory, stepsBy, memory, Kept, toComeAt}
-use Rattle.moves.specs.Moves.{MovesOn, NoneLeft, GoesBack}
+use Rattle.labelling.specs.Labels.{MovesOn, NoneLeft}
+use Rattle.unlabelling.specs.Unlabels.{GoesBack}
 use Rattle.moves.specs.Prepared.{Prepared}
 use Rattle.walk.specs.Walks.{Setting, Walked, Searched}
 

@@ -8,7 +8,7 @@ ghost use Rattle.events.specs.Counts.{Fits};
 ghost use Rattle.words.specs.Places.{used};
 ghost use Rattle.walk.specs.Walks.{Setting, Walked, Searched};
 use events::Counts;
-use moves::Labelled;
+use labelling::Labelled;
 use moves::Moves;
 use problem::Allowance;
 use problem::Answer;
@@ -46,13 +46,13 @@ pub fn walk(
     let mut slot = from;
     let mut counts = start;
     while i < n {
-        match moves::label(moves, sizes, pairs, rows, i, slot, counts, work) {
+        match labelling::label(moves, sizes, pairs, rows, i, slot, counts, work) {
             Labelled::Passed(k) => {
                 i += 1;
                 slot = 0;
                 counts = k;
             }
-            Labelled::Spent(k) => match moves::unlabel(moves, sizes, pairs, rows, i, work) {
+            Labelled::Spent(k) => match unlabelling::unlabel(moves, sizes, pairs, rows, i, work) {
                 Unlabelled::Back(h) => {
                     slot = work[h] + 1;
                     i = h;

@@ -23,9 +23,10 @@ use Rattle.words.specs.Layout.{ChangedOnly, Placed}
 use Rattle.words.proofs.ChangedOnly.{only-refl, only-trans}
 use Rattle.visits.specs.declared.Unlabelled.{Unlabelled}
 use Rattle.moves.specs.declared.Moves.{Moves}
-use Rattle.moves.specs.declared.labelled.Labelled.the-variants.{Passed, Spent, OutOfChecks, OutOfTrials}
+use Rattle.labelling.specs.declared.Labelled.the-variants.{Passed, Spent, OutOfChecks, OutOfTrials}
 use Rattle.moves.specs.Memory.{toComeAt}
-use Rattle.moves.specs.Moves.{Labels, MovesOn, NoneLeft, Unlabels}
+use Rattle.labelling.specs.Labels.{Labels, MovesOn, NoneLeft}
+use Rattle.unlabelling.specs.Unlabels.{Unlabels}
 use Rattle.walk.specs.Walks.{decisionOf, Ends}
 use Rattle.walk.proofs.Underway.{Underway, begins, long, forward, forward-less, left-long, no-plan, given-up, backward, backward-less, whole, placed-of}
 use Rattle.walk.proofs.walk.Statement.{statement}

@@ -1,0 +1,144 @@
+-- The visit's answer is stored; the level after the next begins as a copy.
+use mathlib.Core.List.{List}
+use Prim.Native.Nat.{ℕ}
+use native.Mathlib.Omega.{arith}
+use lib.ListN.{length-set}
+use Rattle.problem.specs.Tables.{Tables, tables}
+use Rattle.methods.specs.ByPlan.{aheadByPlan}
+use Rattle.words.proofs.ChangedOnly.{only-widen}
+use Rattle.labelling.proofs.Stored.{begun-below}
+use Rattle.labelling.proofs.Labels.{AfterVisit, ahead-checks, ahead-trials, ahead-spent, ahead-passed}
+use borrow.Author.Needs.{needs}
+use Rattle.labelling.proofs.label_ahead.Statement.{statement}
+use Rattle.labelling.proofs.label_ahead.Tie as tie
+
+-- THE PLACES: the function's entry, its tables and its words, and the words that the visit left
+abbrev entry : tie.After-begun-set → tie.Start
+entry b = b .before .before .before .before .before .before
+
+abbrev start : tie.After-visit → tie.Start
+start v = entry (v .before .before)
+
+abbrev T : tie.Start → Tables
+T s = tables (s .args .sizes .now) (s .args .pairs .now) (s .args .rows .now)
+
+abbrev W : tie.Start → List ℕ
+W s = s .args .work .now
+
+abbrev after : tie.After-visit → List ℕ
+after v = v .visit .last .1 .1 .1 .1 .1 .1 .1 .1 .0
+
+visited : (v : tie.After-visit) →
+    let s = start v in
+    AfterVisit (T s) (aheadByPlan (T s)) (s .args .backward) (W s) (s .args .i) (s .args .from) (v .before .before .begun-set .result) (s .args .start) (after v) (v .visit .result)
+visited v =
+    let s = start v in
+    record {
+      standing = s .pre .0;
+      begun = v .before .before .begun-set .ensures;
+      sets = s .pre .1 .sets;
+      visits = v .visit .ensures .0;
+      only = only-widen (omega arith) (omega arith) (v .visit .ensures .1 .1);
+    }
+
+begun-set-requires : tie.Need-begun-set-requires
+begun-set-requires c κs = search needs
+
+visit-requires : tie.Need-visit-requires
+visit-requires c κs =
+    let b = c .before in
+    let s = entry b in
+    (s .pre .0, (s .pre .1 .words, rw (b .begun-set .ensures) (begun-below (s .args .backward) (W s) (s .args .i) (s .pre .1 .sets))))
+
+enum-known-slot : tie.Need-enum-known-slot
+enum-known-slot c = search needs
+
+store-passed-requires : tie.Need-store-passed-requires
+store-passed-requires c κs = search needs
+
+add-copy-level : tie.Need-add-copy-level
+add-copy-level c = search needs
+
+copy-level-requires : tie.Need-copy-level-requires
+copy-level-requires c κs =
+    let x = c .before .before .before in
+    let v = x .before .before .before .before .before .before .before in
+    let s = start v in
+    (omega (arith, s .pre .0 .sane .fewBoats, s .pre .0 .boat), s .pre .0 .sane .fewBoats, rw (x .store-passed .ensures) (simp length-set (omega (arith, s .pre .0 .room, v .visit .ensures .1 .1 .long))))
+
+enum-known-set : tie.Need-enum-known-set
+enum-known-set c = search needs
+
+store-spent-requires : tie.Need-store-spent-requires
+store-spent-requires c κs = search needs
+
+enum-known-k : tie.Need-enum-known-k
+enum-known-k c = search needs
+
+enum-known-k-2 : tie.Need-enum-known-k-2
+enum-known-k-2 c = search needs
+
+same-length : tie.Need-same-length
+same-length c = search needs
+
+returns : tie.Need-returns
+returns c =
+    let u = c .before .before in
+    let x = u .before .before .before .before in
+    let n = x .before .before .before in
+    let v = n .before .before .before .before in
+    let g = n .slot .given in
+    ahead-passed (visited v) (start v .pre .1 .words) (v .visit .ensures .1 .0) (g .0 .0) (g .0 .1 .0) (g .0 .1 .1 .0) (g .1) (u .copy-level .last .1 .1 .0)
+    (rw (x .store-passed .ensures) at (u .copy-level .ensures .1)) (rw (x .store-passed .ensures) at (u .copy-level .ensures .0))
+
+same-length-2 : tie.Need-same-length-2
+same-length-2 c = search needs
+
+returns-2 : tie.Need-returns-2
+returns-2 c =
+    let x = c .before .before in
+    let n = x .before .before .before in
+    let v = n .before .before .before .before in
+    let g = n .set .given in
+    rw (x .store-spent .ensures) (ahead-spent (visited v) (start v .pre .1 .words) (v .visit .ensures .1 .0) (g .0 .0) (g .0 .1 .0) (g .1))
+
+same-length-3 : tie.Need-same-length-3
+same-length-3 c = search needs
+
+returns-3 : tie.Need-returns-3
+returns-3 c =
+    let v = c .before .before .before .before .before in
+    let g = c .before .k .given in
+    ahead-checks (visited v) (start v .pre .1 .words) (v .visit .ensures .1 .0) (g .0 .0) (g .1)
+
+same-length-4 : tie.Need-same-length-4
+same-length-4 c = search needs
+
+returns-4 : tie.Need-returns-4
+returns-4 c =
+    let v = c .before .before .before .before .before in
+    let g = c .before .k2 .given in
+    ahead-trials (visited v) (start v .pre .1 .words) (v .visit .ensures .1 .0) (g .0 .0) (g .1)
+
+pub label-ahead-spec : {M : Type 1} → statement M
+label-ahead-spec =
+    tie.close
+    (tie.spec
+    begun-set-requires
+    visit-requires
+    enum-known-slot
+    store-passed-requires
+    add-copy-level
+    copy-level-requires
+    enum-known-set
+    store-spent-requires
+    enum-known-k
+    enum-known-k-2
+    same-length
+    returns
+    same-length-2
+    returns-2
+    same-length-3
+    returns-3
+    same-length-4
+    returns-4)

@@ -1,0 +1,136 @@
+// The forward move: the slots of a boat from one on, until one passes. The words then hold it.
+ghost use mathlib.Core.Path.{_≡_};
+ghost use Rattle.problem.specs.Tables.{Tables, tables};
+ghost use Rattle.visits.specs.Visits.{Standing};
+ghost use Rattle.moves.specs.declared.Moves.the-variants.{LookingBack, Marking, LookingAhead};
+ghost use Rattle.moves.specs.Memory.{Kept};
+ghost use Rattle.labelling.specs.Labels.{Labels};
+
+mod storing;
+
+use events::Counts;
+use moves::Moves;
+use visits::Backward;
+use visits::Visited;
+
+// What the forward move of every method answers.
+pub enum Labelled {
+    Passed(Counts),
+    Spent(Counts),
+    OutOfChecks(Counts),
+    OutOfTrials(Counts),
+}
+
+fn label_back(
+    backward: Backward,
+    sizes: &[u8],
+    pairs: &[u8],
+    rows: &[u64],
+    i: usize,
+    from: u64,
+    start: Counts,
+    work: &mut [u64],
+) -> Labelled
+    ghost { Tables }
+    requires { λ t. ⌜ tables (now sizes) (now pairs) (now rows) ≡ t ⌝ }
+    requires { λ t. ⌜ Standing t (now work) i start ⌝ }
+    requires { λ t. ⌜ Kept (LookingBack backward) t (now work) i ⌝ }
+    ensures { λ t r. ⌜ Labels (LookingBack backward) t (now (work .entry)) i from start (now (work .exit)) r ⌝ }
+{
+    let with = storing::begun_set(backward, i, work);
+    match looking_back::visit(sizes, pairs, rows, i, from, with, start, work) {
+        Visited::Passed(slot, set, k) => {
+            storing::store_passed(i, slot, set, work);
+            Labelled::Passed(k)
+        }
+        Visited::Spent(set, k) => {
+            storing::store_spent(i, set, work);
+            Labelled::Spent(k)
+        }
+        Visited::OutOfChecks(k) => Labelled::OutOfChecks(k),
+        Visited::OutOfTrials(k) => Labelled::OutOfTrials(k),
+    }
+}
+
+// The marks are the visit's own.
+fn label_marked(
+    sizes: &[u8],
+    pairs: &[u8],
+    rows: &[u64],
+    i: usize,
+    from: u64,
+    start: Counts,
+    work: &mut [u64],
+) -> Labelled
+    ghost { Tables }
+    requires { λ t. ⌜ tables (now sizes) (now pairs) (now rows) ≡ t ⌝ }
+    requires { λ t. ⌜ Standing t (now work) i start ⌝ }
+    requires { λ t. ⌜ Kept Marking t (now work) i ⌝ }
+    ensures { λ t r. ⌜ Labels Marking t (now (work .entry)) i from start (now (work .exit)) r ⌝ }
+{
+    match marking::visit(sizes, pairs, rows, i, from, start, work) {
+        Visited::Passed(slot, _, k) => {
+            work[i] = slot;
+            Labelled::Passed(k)
+        }
+        Visited::Spent(_, k) => Labelled::Spent(k),
+        Visited::OutOfChecks(k) => Labelled::OutOfChecks(k),
+        Visited::OutOfTrials(k) => Labelled::OutOfTrials(k),
+    }
+}
+
+// The level after the next begins as a copy.
+fn label_ahead(
+    backward: Backward,
+    sizes: &[u8],
+    pairs: &[u8],
+    rows: &[u64],
+    i: usize,
+    from: u64,
+    start: Counts,
+    work: &mut [u64],
+) -> Labelled
+    ghost { Tables }
+    requires { λ t. ⌜ tables (now sizes) (now pairs) (now rows) ≡ t ⌝ }
+    requires { λ t. ⌜ Standing t (now work) i start ⌝ }
+    requires { λ t. ⌜ Kept (LookingAhead backward) t (now work) i ⌝ }
+    ensures { λ t r. ⌜ Labels (LookingAhead backward) t (now (work .entry)) i from start (now (work .exit)) r ⌝ }
+{
+    let with = storing::begun_set(backward, i, work);
+    match looking_ahead::visit(backward, sizes, pairs, rows, i, from, with, start, work) {
+        Visited::Passed(slot, set, k) => {
+            storing::store_passed(i, slot, set, work);
+            looking_ahead::copy_level(sizes.len(), i + 1, work);
+            Labelled::Passed(k)
+        }
+        Visited::Spent(set, k) => {
+            storing::store_spent(i, set, work);
+            Labelled::Spent(k)
+        }
+        Visited::OutOfChecks(k) => Labelled::OutOfChecks(k),
+        Visited::OutOfTrials(k) => Labelled::OutOfTrials(k),
+    }
+}
+
+pub fn label(
+    moves: Moves,
+    sizes: &[u8],
+    pairs: &[u8],
+    rows: &[u64],
+    i: usize,
+    from: u64,
+    start: Counts,
+    work: &mut [u64],
+) -> Labelled
+    ghost { Tables }
+    requires { λ t. ⌜ tables (now sizes) (now pairs) (now rows) ≡ t ⌝ }
+    requires { λ t. ⌜ Standing t (now work) i start ⌝ }
+    requires { λ t. ⌜ Kept moves t (now work) i ⌝ }
+    ensures { λ t r. ⌜ Labels moves t (now (work .entry)) i from start (now (work .exit)) r ⌝ }
+{
+    match moves {
+        Moves::LookingBack(b) => label_back(b, sizes, pairs, rows, i, from, start, work),
+        Moves::Marking => label_marked(sizes, pairs, rows, i, from, start, work),
+        Moves::LookingAhead(b) => label_ahead(b, sizes, pairs, rows, i, from, start, work),
+    }
+}

@@ -1,0 +1,37 @@
+// What a visit begins with and leaves in the words.
+ghost use mathlib.Core.Path.{_≡_};
+ghost use Prim.Native.Nat.{_≤_, _<_};
+ghost use lib.ListN.{length};
+ghost use Rattle.words.specs.Places.{used};
+ghost use Rattle.labelling.specs.Stored.{passedWords, spentWords, begunSet};
+use visits::Backward;
+use words::Words;
+
+// The set that a visit of boat i begins with: its own, where the way back goes by sets.
+pub fn begun_set(backward: Backward, i: usize, work: &[u64]) -> u64
+    requires { ⌜ (i < 64) × (used ≤ length (now work)) ⌝ }
+    ensures { λ r. ⌜ r ≡ begunSet backward (now (work .entry)) i ⌝ }
+{
+    match backward {
+        Backward::OneBack => 0,
+        Backward::BySets => work[Words::SETS + i],
+    }
+}
+
+// A slot of boat i has passed.
+pub fn store_passed(i: usize, slot: u64, set: u64, work: &mut [u64])
+    requires { ⌜ (i < 64) × (used ≤ length (now work)) ⌝ }
+    ensures { λ _. ⌜ now (work .exit) ≡ passedWords (now (work .entry)) i slot set ⌝ }
+{
+    work[i] = slot;
+    work[Words::SETS + i] = set;
+    work[Words::NEXT_SET + i] = 0;
+}
+
+// Boat i has no slot left.
+pub fn store_spent(i: usize, set: u64, work: &mut [u64])
+    requires { ⌜ (i < 64) × (used ≤ length (now work)) ⌝ }
+    ensures { λ _. ⌜ now (work .exit) ≡ spentWords (now (work .entry)) i set ⌝ }
+{
+    work[Words::SETS + i] = set;
+}

@@ -1,0 +1,2 @@
+pub mod Unlabels
+pub mod Jumps
