@@ -28,10 +28,10 @@ use Rattle.visits.specs.declared.Visited.the-variants.{Passed, Spent, OutOfChec
 use Rattle.visits.specs.Visits.{Standing, toCome, Visits}
 use Rattle.looking_back.specs.Kept.{KeptBack}
 use Rattle.marking.specs.Marks.{marksOf, VisitsMarked}
-use Rattle.looking_ahead.specs.Lives.{Copied}
+use Rattle.live_words.specs.Lives.{Copied}
 use Rattle.looking_ahead.specs.Ahead.{LivesAfter}
-use Rattle.looking_ahead.specs.Kept.{KeptAhead}
-use Rattle.looking_ahead.proofs.Live.{lives-stay, copied-stays}
+use Rattle.live_words.specs.Kept.{KeptAhead}
+use Rattle.live_words.proofs.Live.{lives-stay, copied-stays}
 use Rattle.moves.specs.declared.Moves.the-variants.{LookingBack, Marking, LookingAhead}
 use Rattle.labelling.specs.declared.Labelled.the-variants.{Passed as LPassed, Spent as LSpent, OutOfChecks as LChecks, OutOfTrials as LTrials}
 use Rattle.moves.specs.Memory.{SetsKept, Kept, toComeAt}

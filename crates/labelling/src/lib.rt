@@ -100,7 +100,7 @@ fn label_ahead(
     match looking_ahead::visit(backward, sizes, pairs, rows, i, from, with, start, work) {
         Visited::Passed(slot, set, k) => {
             storing::store_passed(i, slot, set, work);
-            looking_ahead::copy_level(sizes.len(), i + 1, work);
+            live_words::copy_level(sizes.len(), i + 1, work);
             Labelled::Passed(k)
         }
         Visited::Spent(set, k) => {

@@ -33,11 +33,11 @@ use Rattle.words.proofs.Bits.{bit-or}
 use Rattle.words.proofs.ChangedOnly.{only-trans, only-take}
 use Rattle.words.proofs.Frames.{same-before, firsts-stay}
 use Rattle.visits.proofs.Visiting.{settled as judged, refused, come-blamed, come-skip, come-trial, come-spent}
+use Rattle.live_words.specs.Lives.{Lives, Copied, Stays, LostAt}
+use Rattle.live_words.proofs.Live.{lives-stay, lives-pass, lost-blamers}
 use Rattle.looking_ahead.specs.declared.sweep.Swept.{Swept}
 use Rattle.looking_ahead.specs.declared.sweep.Swept.the-variants.{Clear, Emptied, OutOfChecks as OutOf}
-use Rattle.looking_ahead.specs.Lives.{Lives, Copied, LostAt}
-use Rattle.looking_ahead.specs.Sweeps.{settled, trialSweep, Stays, SweepsTo}
-use Rattle.looking_ahead.proofs.Live.{lives-stay, lives-pass, lost-blamers}
+use Rattle.looking_ahead.specs.Sweeps.{settled, trialSweep, SweepsTo}
 
 -- ---- the forward move, opened
 module _ (t : Tables) (p : List ℕ) (a : ℕ) where

@@ -23,9 +23,8 @@ use Rattle.methods.specs.ByPlan.{openSweep}
 use Rattle.words.specs.Layout.{word, ChangedOnly, firstPair, liveAt}
 use Rattle.words.proofs.Firsts.{first-le, first-same}
 use Rattle.words.proofs.ChangedOnly.{only-refl}
-use Rattle.looking_ahead.specs.Lives.{Copied}
-use Rattle.looking_ahead.specs.Kept.{Sweepable}
-use Rattle.looking_ahead.specs.Sweeps.{sweeping, trialSweep, SweepsTo}
+use Rattle.live_words.specs.Lives.{Copied}
+use Rattle.looking_ahead.specs.Sweeps.{Sweepable, sweeping, trialSweep, SweepsTo}
 use Rattle.looking_ahead.specs.declared.sweep.Swept.the-variants.{Clear}
 use Rattle.looking_ahead.proofs.Pairs.{pair-listed, listed-pair}
 use Rattle.looking_ahead.proofs.Sweeping.{sweep-past, sweep-end}

@@ -1,10 +1,6 @@
-pub mod Words
-pub mod Openings
-pub mod Live
-pub mod Loops
-pub mod Ahead
 pub mod Ones
 pub mod Pairs
 pub mod Sweeping
 pub mod Along
 pub mod Turns
+pub mod Ahead

@@ -31,11 +31,10 @@ use Rattle.words.specs.Layout.{word, ChangedOnly, firstPair, liveAt}
 use Rattle.words.proofs.Bits.{bit-and}
 use Rattle.words.proofs.Firsts.{first-same}
 use Rattle.words.proofs.ChangedOnly.{only-trans, only-set}
-use Rattle.looking_ahead.specs.Lives.{Copied}
-use Rattle.looking_ahead.specs.Kept.{Sweepable}
-use Rattle.looking_ahead.specs.Sweeps.{sweeping, trialSweep, SweepsTo}
+use Rattle.live_words.specs.Lives.{Copied}
+use Rattle.live_words.proofs.Words.{and-swap}
+use Rattle.looking_ahead.specs.Sweeps.{Sweepable, sweeping, trialSweep, SweepsTo}
 use Rattle.looking_ahead.specs.declared.sweep.Swept.the-variants.{Emptied, OutOfChecks as RunOut}
-use Rattle.looking_ahead.proofs.Words.{and-swap}
 use Rattle.looking_ahead.proofs.Ones.{none-set, one-set, no-ones, zero-ones}
 use Rattle.looking_ahead.proofs.Pairs.{pair-listed, place-is, pair-is, higher-rise}
 use Rattle.looking_ahead.proofs.Sweeping.{sweep-past, on-emptied, on-sweeping, off-sweeping, checks-trials, checks-are}

@@ -5,7 +5,7 @@ use lib.ListN.{take}
 use Rattle.problem.specs.Tables.{Tables}
 use Rattle.visits.specs.declared.Visited.{Visited}
 use Rattle.visits.specs.declared.Visited.the-variants.{Passed, Spent, OutOfChecks, OutOfTrials}
-use Rattle.looking_ahead.specs.Lives.{Lives, Copied}
+use Rattle.live_words.specs.Lives.{Lives, Copied}
 
 -- a slot that passed has the next level right; what was right before still is
 abbrev pub LivesAfter : Tables → (w : List ℕ) → (i : ℕ) → (w′ : List ℕ) → Visited → Type 0

@@ -1,4 +1,2 @@
-pub mod Lives
 pub mod Sweeps
 pub mod Ahead
-pub mod Kept

@@ -1,20 +1,21 @@
 -- A trial's way over the later boats, as what is to come: for any way on, and any way on from the blamers of an emptied boat.
 use mathlib.Core.Path.{_≡_}
-use mathlib.Core.Bool.{true, _&&_}
 use mathlib.Core.List.{List}
 use mathlib.Core.Option.{Option, none, some}
-use Prim.Native.Nat.{ℕ, suc, _-_, _<_}
-use lib.ListN.{length}
-use Rattle.problem.specs.Tables.{Tables, boats, isListed, bit}
+use Prim.Native.Nat.{ℕ, suc, _-_, _≤_, _<_}
+use lib.ListN.{length, take}
+use Rattle.problem.specs.Tables.{Tables, boats, size}
+use Rattle.problem.specs.Sane.{Sane}
 use Rattle.problem.specs.declared.Allowance.the-variants.{Checks}
 use Rattle.events.specs.Events.{Search, _then_}
 use Rattle.events.specs.Allowances.{outcome, undecided}
 use Rattle.events.specs.declared.Counts.{Counts}
 use Rattle.events.specs.Counts.{cutAt, Leads}
-use Rattle.methods.specs.Choices.{mayStand}
 use Rattle.methods.specs.Moves.{Boats}
 use Rattle.methods.specs.ByPlan.{openSweep, blamersOf}
-use Rattle.words.specs.Layout.{liveAt}
+use Rattle.words.specs.Places.{used}
+use Rattle.words.specs.Layout.{Firsts}
+use Rattle.live_words.specs.Lives.{Lives, Copied, Stays}
 use Rattle.looking_ahead.specs.declared.sweep.Swept.{Swept}
 use Rattle.looking_ahead.specs.declared.sweep.Swept.the-variants.{Clear, Emptied, OutOfChecks}
 
@@ -30,10 +31,15 @@ sweeping t p a j r on off = openSweep t p a j r .checks then settled t p (openSw
 abbrev pub trialSweep : Tables → (p : List ℕ) → (a : ℕ) → (on : Search) → (off : Boats → Search) → Search
 trialSweep t p a on off = sweeping t p a (suc (length p)) (boats t - suc (length p)) on off
 
--- the next level has what stays at the boats listed with i
-abbrev pub Stays : Tables → (w w′ : List ℕ) → (i a : ℕ) → Type 0
-Stays t w w′ i a =
-    (j b : ℕ) → i < j → j < boats t → b < 64 → isListed (t .pairs) i j ≡ true → bit (liveAt w′ (suc i) j) b ≡ (bit (liveAt w i j) b && mayStand t i a j b)
+-- what a sweep of slot a of boat i goes by
+pub record Sweepable (t : Tables) (w : List ℕ) (i a : ℕ) : Type 0 where
+  pub sane : Sane t
+  pub boat : i < boats t
+  pub slot : a < size (t .sizes) i
+  pub room : used ≤ length w
+  pub firsts : Firsts t w
+  pub lives : Lives t w (take i w) i
+  pub copied : Copied t w i
 
 -- a sweep from the words w that leaves w′
 abbrev pub SweepsTo : Tables → (w : List ℕ) → (p : List ℕ) → (a : ℕ) → Counts → (w′ : List ℕ) → Swept → Type 0

@@ -1,23 +1,18 @@
-// FC and FC-CBJ: a trial looks ahead at the later boats listed with it. Level i of the live words is as it stands before boat i's trial.
+// FC and FC-CBJ: a trial looks ahead at the later boats listed with it.
 ghost use mathlib.Core.Path.{_≡_};
-ghost use Prim.Native.Nat.{_+_, _*_, _^_, _<_};
+ghost use Prim.Native.Nat.{_^_, _<_};
 ghost use Rattle.problem.specs.Tables.{Tables, tables};
 ghost use Rattle.methods.specs.ByPlan.{aheadByPlan};
-ghost use Rattle.words.specs.Places.{used, levels, nextLevel};
+ghost use Rattle.words.specs.Places.{used, nextLevel};
 ghost use Rattle.words.specs.Layout.{ChangedOnly};
 ghost use Rattle.visits.specs.Visits.{Standing, Visits};
-ghost use Rattle.looking_ahead.specs.Kept.{KeptAhead};
+ghost use Rattle.live_words.specs.Kept.{KeptAhead};
 ghost use Rattle.looking_ahead.specs.Ahead.{LivesAfter};
 
-mod levels;
-mod slots;
 mod sweep;
 
 use events::Counted;
 use events::Counts;
-pub use levels::blamers;
-pub use levels::copy_level;
-pub use levels::fill_level;
 use sweep::Swept;
 use visits::Backward;
 use visits::Visited;
@@ -62,13 +57,13 @@ pub fn visit(
                     counts = k;
                     match backward {
                         Backward::OneBack => {}
-                        Backward::BySets => set = set | levels::blamers(i, j, work),
+                        Backward::BySets => set = set | live_words::blamers(i, j, work),
                     }
                 }
                 Swept::OutOfChecks(k) => return Visited::OutOfChecks(k),
             }
         }
-        slot = slots::next_live(live, slot + 1);
+        slot = live_words::next_live(live, slot + 1);
     }
     Visited::Spent(set, counts)
 }

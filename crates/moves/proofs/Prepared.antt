@@ -25,8 +25,8 @@ use Rattle.visits.specs.declared.Backward.{Backward}
 use Rattle.visits.specs.declared.Backward.the-variants.{OneBack, BySets}
 use Rattle.visits.specs.Visits.{stepsOver, state}
 use Rattle.marking.specs.Marks.{marksOf}
-use Rattle.looking_ahead.specs.Lives.{Lives}
-use Rattle.looking_ahead.proofs.Live.{lives-stay}
+use Rattle.live_words.specs.Lives.{Lives}
+use Rattle.live_words.proofs.Live.{lives-stay}
 use Rattle.moves.specs.declared.Moves.the-variants.{LookingBack, Marking, LookingAhead}
 use Rattle.moves.specs.Memory.{SetsKept}
 use Rattle.moves.specs.Prepared.{PreparedAhead, Prepared}

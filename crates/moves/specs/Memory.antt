@@ -19,7 +19,7 @@ use Rattle.visits.specs.Visits.{State, stepsOver, state}
 use Rattle.looking_back.specs.Kept.{KeptBack}
 use Rattle.marking.specs.Marks.{marksOf}
 use Rattle.marking.specs.Kept.{KeptMarked}
-use Rattle.looking_ahead.specs.Kept.{KeptAhead}
+use Rattle.live_words.specs.Kept.{KeptAhead}
 use Rattle.moves.specs.declared.Moves.{Moves}
 use Rattle.moves.specs.declared.Moves.the-variants.{LookingBack, Marking, LookingAhead}
 

@@ -5,7 +5,7 @@ use Prim.Native.Nat.{ℕ}
 use Rattle.problem.specs.Tables.{Tables}
 use Rattle.words.specs.Places.{starts, used}
 use Rattle.words.specs.Layout.{ChangedOnly, Firsts}
-use Rattle.looking_ahead.specs.Lives.{Lives, Copied}
+use Rattle.live_words.specs.Lives.{Lives, Copied}
 use Rattle.moves.specs.declared.Moves.{Moves}
 use Rattle.moves.specs.Memory.{stepsBy, memory, Kept}
 

@@ -18,8 +18,8 @@ fn prepare_ahead(sizes: &[u8], pairs: &[u8], rows: &[u64], work: &mut [u64])
     ensures { λ t _. ⌜ PreparedAhead t (now (work .entry)) (now (work .exit)) ⌝ }
 {
     words::index_ahead(sizes, pairs, rows, work);
-    looking_ahead::fill_level(sizes, pairs, rows, work);
-    looking_ahead::copy_level(sizes.len(), 0, work);
+    live_words::fill_level(sizes, pairs, rows, work);
+    live_words::copy_level(sizes.len(), 0, work);
 }
 
 // What the forward move looks up, so that it searches for no pair.

@@ -1,6 +1,6 @@
 // The looks that all other code makes at the tables.
 ghost use mathlib.Core.Path.{_≡_};
-ghost use Prim.Native.Nat.{ℕ, _*_, _+_, _<_, _≤_};
+ghost use Prim.Native.Nat.{ℕ, _*_, _<_, _≤_};
 ghost use lib.ListN.{length};
 ghost use Rattle.problem.specs.Tables.{size, listed, lower, higher, place, start, bit as bitOf};
 ghost use Rattle.problem.specs.Rising.{Rising};

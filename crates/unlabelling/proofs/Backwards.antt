@@ -28,11 +28,11 @@ use Rattle.visits.specs.declared.Unlabelled.the-variants.{Back, NoPlan}
 use Rattle.visits.specs.Visits.{stepsOver}
 use Rattle.looking_back.specs.Kept.{KeptBack}
 use Rattle.marking.specs.Marks.{marksOf, NeverRises}
-use Rattle.looking_ahead.specs.Lives.{Lives, Copied}
-use Rattle.looking_ahead.specs.Kept.{KeptAhead}
-use Rattle.looking_ahead.proofs.Live.{lives-stay, copied-stays}
-use Rattle.looking_ahead.proofs.Words.{bits-same}
-use Rattle.looking_ahead.proofs.Openings.{open-suc}
+use Rattle.live_words.specs.Lives.{Lives, Copied}
+use Rattle.live_words.specs.Kept.{KeptAhead}
+use Rattle.live_words.proofs.Live.{lives-stay, copied-stays}
+use Rattle.live_words.proofs.Words.{bits-same}
+use Rattle.live_words.proofs.Openings.{open-suc}
 use Rattle.moves.specs.declared.Moves.the-variants.{LookingBack, Marking, LookingAhead}
 use Rattle.moves.specs.Memory.{Kept}
 use Rattle.unlabelling.specs.Unlabels.{Leaving, Unlabels}

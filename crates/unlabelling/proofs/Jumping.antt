@@ -28,9 +28,9 @@ use Rattle.visits.specs.declared.Unlabelled.{Unlabelled}
 use Rattle.visits.specs.declared.Unlabelled.the-variants.{Back, NoPlan}
 use Rattle.visits.specs.Visits.{State, stepsOver, state}
 use Rattle.looking_back.specs.Kept.{KeptBack}
-use Rattle.looking_ahead.specs.Lives.{LostAt}
-use Rattle.looking_ahead.specs.Kept.{KeptAhead}
-use Rattle.looking_ahead.proofs.Live.{lost-blamers}
+use Rattle.live_words.specs.Lives.{LostAt}
+use Rattle.live_words.specs.Kept.{KeptAhead}
+use Rattle.live_words.proofs.Live.{lost-blamers}
 use Rattle.moves.specs.declared.Moves.the-variants.{LookingBack, LookingAhead}
 use Rattle.unlabelling.specs.Unlabels.{Leaving, Unlabels}
 use Rattle.unlabelling.specs.Jumps.{HandsDown, JumpsBack}

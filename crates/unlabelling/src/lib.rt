@@ -76,7 +76,7 @@ pub fn unlabel(
         Moves::LookingAhead(backward) => match backward {
             Backward::OneBack => step_back(i),
             Backward::BySets => {
-                let blamed = work[Words::SETS + i] | looking_ahead::blamers(i, i, work);
+                let blamed = work[Words::SETS + i] | live_words::blamers(i, i, work);
                 jump_back(i, blamed, work)
             }
         },

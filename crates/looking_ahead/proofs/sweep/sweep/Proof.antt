@@ -6,7 +6,7 @@ use borrow.Author.Needs.{needs}
 use lib.Count.{ones-le}
 use Rattle.problem.specs.Tables.{Tables, tables}
 use Rattle.words.specs.Layout.{liveAt}
-use Rattle.looking_ahead.specs.Kept.{Sweepable}
+use Rattle.looking_ahead.specs.Sweeps.{Sweepable}
 use Rattle.looking_ahead.proofs.Along.{Along, end-word, row-word, begins, ends}
 use Rattle.looking_ahead.proofs.Pairs.{pair-listed}
 use Rattle.looking_ahead.proofs.Turns.{Turn, is-pair, small, runs-out, in-rows, in-words, still-copied, still-only, empties, goes-on}

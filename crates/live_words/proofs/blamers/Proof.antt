@@ -5,10 +5,10 @@ use Prim.Native.Nat.{_-_, _≤_}
 use borrow.Author.Needs.{needs}
 use native.Mathlib.Omega.{arith}
 use Rattle.words.specs.Layout.{word, liveAt}
-use Rattle.looking_ahead.specs.Lives.{LostAt}
-use Rattle.looking_ahead.proofs.Loops.{lost-none, lost-more, lost-same}
-use Rattle.looking_ahead.proofs.levels.blamers.Statement.{statement}
-use Rattle.looking_ahead.proofs.levels.blamers.Tie as tie
+use Rattle.live_words.specs.Lives.{LostAt}
+use Rattle.live_words.proofs.Loops.{lost-none, lost-more, lost-same}
+use Rattle.live_words.proofs.blamers.Statement.{statement}
+use Rattle.live_words.proofs.blamers.Tie as tie
 
 abbrev Inv-loop : tie.InvT-loop
 Inv-loop i j work set₀ before₀ g₀ set before g = (g ≤ i) × LostAt work g j set × (before ≡ liveAt work g j)

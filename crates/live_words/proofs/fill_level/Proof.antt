@@ -7,9 +7,9 @@ use lib.ListN.{length}
 use Rattle.problem.specs.Tables.{size}
 use Rattle.words.specs.Layout.{word, ChangedOnly}
 use Rattle.words.proofs.ChangedOnly.{only-refl, only-trans, only-set}
-use Rattle.looking_ahead.proofs.Loops.{written-more, all-live}
-use Rattle.looking_ahead.proofs.levels.fill_level.Statement.{statement}
-use Rattle.looking_ahead.proofs.levels.fill_level.Tie as tie
+use Rattle.live_words.proofs.Loops.{written-more, all-live}
+use Rattle.live_words.proofs.fill_level.Statement.{statement}
+use Rattle.live_words.proofs.fill_level.Tie as tie
 
 abbrev Inv-loop : tie.InvT-loop
 Inv-loop sizes pairs rows work₀ j₀ work j =

@@ -5,8 +5,8 @@ use borrow.Author.Needs.{needs}
 use native.Mathlib.Omega.{arith}
 use lib.Pow.{pow-pos}
 use Rattle.words.proofs.Bits.{shl-one}
-use Rattle.looking_ahead.proofs.levels.all_slots.Statement.{statement}
-use Rattle.looking_ahead.proofs.levels.all_slots.Tie as tie
+use Rattle.live_words.proofs.all_slots.Statement.{statement}
+use Rattle.live_words.proofs.all_slots.Tie as tie
 
 shl-result : tie.Need-shl-result
 shl-result c = search needs

@@ -1,13 +1,17 @@
-// The levels of live words.
+// The slots of the later boats that the boats placed so far leave live, level by level. Level i is as it stands before boat i's trial.
 ghost use mathlib.Core.Path.{_≡_};
 ghost use mathlib.Core.List.{[]};
-ghost use Prim.Native.Nat.{ℕ, suc, _+_, _-_, _*_, _^_, _≤_, _<_};
+ghost use Prim.Native.Nat.{ℕ, suc, _-_, _^_, _≤_, _<_};
 ghost use lib.ListN.{length};
 ghost use Rattle.problem.specs.Tables.{Tables, tables};
 ghost use Rattle.problem.specs.Sane.{Sane};
 ghost use Rattle.words.specs.Places.{used, levels, nextLevel};
 ghost use Rattle.words.specs.Layout.{liveAt, ChangedOnly};
-ghost use Rattle.looking_ahead.specs.Lives.{Lives, LostAt};
+ghost use Rattle.live_words.specs.Lives.{Lives, LostAt};
+
+mod slots;
+
+pub use slots::next_live;
 use words::Words;
 
 // The slots of a boat, all live.

@@ -25,10 +25,9 @@ use Rattle.methods.proofs.Shown.{choices-size}
 use Rattle.words.specs.Places.{levels, used, levelAt}
 use Rattle.words.specs.Layout.{word, ChangedOnly, liveAt}
 use Rattle.words.proofs.Frames.{Same, same-before}
-use Rattle.looking_ahead.specs.Lives.{Lives, Copied, LostAt}
-use Rattle.looking_ahead.specs.Sweeps.{Stays}
-use Rattle.looking_ahead.proofs.Words.{and-swap, bits-same}
-use Rattle.looking_ahead.proofs.Openings.{open-snoc, open-suc, first-at}
+use Rattle.live_words.specs.Lives.{Lives, Copied, Stays, LostAt}
+use Rattle.live_words.proofs.Words.{and-swap, bits-same}
+use Rattle.live_words.proofs.Openings.{open-snoc, open-suc, first-at}
 
 -- two words with a bit for each place below n where a test passes, the second only where another passes too: they differ exactly where some place
 -- passes the first test and not the other

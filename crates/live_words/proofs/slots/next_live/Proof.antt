@@ -3,9 +3,9 @@ use Prim.Native.Nat.{_/_, _^_, _≤_}
 use borrow.Author.Needs.{needs}
 use native.Mathlib.Omega.{arith}
 use lib.Count.{trailingZeros, trailing-le}
-use Rattle.looking_ahead.proofs.Words.{below-shifted}
-use Rattle.looking_ahead.proofs.slots.next_live.Statement.{statement}
-use Rattle.looking_ahead.proofs.slots.next_live.Tie as tie
+use Rattle.live_words.proofs.Words.{below-shifted}
+use Rattle.live_words.proofs.slots.next_live.Statement.{statement}
+use Rattle.live_words.proofs.slots.next_live.Tie as tie
 
 returns : tie.Need-returns
 returns c = (omega arith, omega arith, λ k lo hi. absurd (omega arith))

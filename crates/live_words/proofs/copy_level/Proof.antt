@@ -5,9 +5,9 @@ use borrow.Author.Needs.{needs}
 use native.Mathlib.Omega.{arith}
 use Rattle.words.specs.Layout.{word, ChangedOnly}
 use Rattle.words.proofs.ChangedOnly.{only-refl, only-trans, only-set, only-below}
-use Rattle.looking_ahead.proofs.Loops.{written-more}
-use Rattle.looking_ahead.proofs.levels.copy_level.Statement.{statement}
-use Rattle.looking_ahead.proofs.levels.copy_level.Tie as tie
+use Rattle.live_words.proofs.Loops.{written-more}
+use Rattle.live_words.proofs.copy_level.Statement.{statement}
+use Rattle.live_words.proofs.copy_level.Tie as tie
 
 abbrev Inv-loop : tie.InvT-loop
 Inv-loop n i work₀ j₀ work j =

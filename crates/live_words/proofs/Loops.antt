@@ -14,9 +14,9 @@ use Rattle.problem.specs.Tables.{Tables, boats, size, bit}
 use Rattle.words.specs.Layout.{word, liveAt}
 use Rattle.words.specs.Sets.{WithMember}
 use Rattle.words.proofs.Bits.{bit-zero}
-use Rattle.looking_ahead.specs.Lives.{Lives, LostAt}
-use Rattle.looking_ahead.proofs.Words.{bit-ones}
-use Rattle.looking_ahead.proofs.Openings.{open-nil}
+use Rattle.live_words.specs.Lives.{Lives, LostAt}
+use Rattle.live_words.proofs.Words.{bit-ones}
+use Rattle.live_words.proofs.Openings.{open-nil}
 
 -- the words from base + lo on, one more of them written
 pub written-more : (base lo : ℕ) (f : ℕ → ℕ) (w : List ℕ) (j v : ℕ) → base + j < length w → ((k : ℕ) → lo ≤ k → k < j → word w (base + k) ≡ f k) → v ≡ f j →
