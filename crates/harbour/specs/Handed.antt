@@ -4,7 +4,7 @@ use mathlib.Core.List.{List, [], _∷_}
 use Prim.Native.Nat.{ℕ, _-_}
 use lib.Dec.{eqb}
 use Rattle.problem.specs.Replies.{Told, told}
-use Rattle.tables.specs.declared.Part.{Part}
+use Rattle.questions.specs.declared.Part.{Part}
 use Rattle.planner.specs.Runs.{Result}
 use Rattle.harbour.specs.declared.HarbourReply.{HarbourReply}
 use Rattle.harbour.specs.declared.HarbourPart.{HarbourPart}

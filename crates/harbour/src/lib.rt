@@ -2,7 +2,7 @@
 ghost use mathlib.Core.Path.{_≡_};
 ghost use Rattle.problem.specs.Tables.{tables};
 ghost use Rattle.tables.specs.Examination.{examination};
-ghost use Rattle.tables.specs.Questions.{lawfulQuestion, brokenQuestion, rowsShown};
+ghost use Rattle.questions.specs.Questions.{lawfulQuestion, brokenQuestion, rowsShown};
 ghost use Rattle.planner.specs.Runs.{runResult};
 ghost use Rattle.harbour.specs.Handed.{handed, handedRun, fineOrRefused, handedPart};
 
@@ -82,7 +82,7 @@ pub extern "C" fn harbour_lawful(
 ) -> HarbourReply
     ensures { λ r. ⌜ r ≡ handed (lawfulQuestion (tables (now (sizes .entry)) (now (pairs .entry)) (now (rows .entry))) (now (given .entry))) 0 0 ⌝ }
 {
-    replies::judged(tables::is_lawful(sizes, pairs, rows, given))
+    replies::judged(questions::is_lawful(sizes, pairs, rows, given))
 }
 
 #[no_mangle]
@@ -94,7 +94,7 @@ pub extern "C" fn harbour_broken(
 ) -> HarbourReply
     ensures { λ r. ⌜ r ≡ handed (brokenQuestion (tables (now (sizes .entry)) (now (pairs .entry)) (now (rows .entry))) (now (given .entry))) 0 0 ⌝ }
 {
-    replies::broken(tables::first_broken(sizes, pairs, rows, given))
+    replies::broken(questions::first_broken(sizes, pairs, rows, given))
 }
 
 #[no_mangle]
@@ -107,7 +107,7 @@ pub extern "C" fn harbour_rows(
 ) -> HarbourPart
     ensures { λ r. ⌜ r ≡ handedPart (rowsShown (tables (now (sizes .entry)) (now (pairs .entry)) (now (rows .entry))) lower higher) ⌝ }
 {
-    let part = tables::place_of_rows(sizes, pairs, rows, lower as usize, higher as usize);
+    let part = questions::place_of_rows(sizes, pairs, rows, lower as usize, higher as usize);
     HarbourPart {
         start: part.from as u64,
         length: (part.to - part.from) as u64,

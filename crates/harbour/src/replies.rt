@@ -2,16 +2,17 @@
 ghost use mathlib.Core.Path.{_≡_};
 ghost use Rattle.problem.specs.Replies.{answerTold, refusalTold};
 ghost use Rattle.problem.specs.declared.Answer.the-variants.{Undecided};
-ghost use Rattle.tables.specs.Replies.{examinedTold, judgedTold, brokenTold};
+ghost use Rattle.tables.specs.Replies.{examinedTold};
+ghost use Rattle.questions.specs.Replies.{judgedTold, brokenTold};
 ghost use Rattle.harbour.specs.Handed.{handed, fineOrRefused};
 use crate::HarbourReply;
 use problem::Allowance;
 use problem::Answer;
 use problem::Refusal;
 use problem::Reply;
-use tables::Broken;
+use questions::Broken;
+use questions::Judged;
 use tables::Examined;
-use tables::Judged;
 
 fn numbered(answer: u64, place: u64, checks: u64, trials: u64) -> HarbourReply
     ensures { λ r. ⌜ r ≡ record { answer = answer; place = place; checks = checks; trials = trials } ⌝ }

@@ -22,8 +22,7 @@ use Rattle.tables.specs.Replies.{examinedTold}
 use Rattle.tables.specs.declared.Examined.{Examined}
 use Rattle.tables.specs.declared.Examined.the-variants.{Fine as FoundFine, Refused}
 use Rattle.tables.proofs.Examining.{once-applies, once-passes}
-use Rattle.tables.proofs.Laws.{fine-none, gives-first, large-gives}
-use Rattle.tables.proofs.Judging.{after-none, gives-before}
+use Rattle.tables.proofs.Laws.{gives-first, large-gives, after-none, gives-before, fine-none}
 use Rattle.events.specs.Allowances.{cut}
 use Rattle.methods.specs.Methods.{searchBy}
 use Rattle.planner.specs.Runs.{notOneToFive, lentTests, refusalOfRun, Result, refusedResult, finishedResult, finishedBy, unlessRefused, runResult}

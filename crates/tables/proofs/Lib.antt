@@ -1,11 +1,8 @@
 pub mod Bools
 pub mod Causes
 pub mod Words
-pub mod Keeping
 pub mod Examining
 pub mod Laws
 pub mod Fine
-pub mod Judging
-pub mod Shown
 pub mod Replies
 pub mod Wrong

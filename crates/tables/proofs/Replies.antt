@@ -1,4 +1,4 @@
--- Two replies that say the same on paper are the same: each can be read back.
+-- Two examinations that say the same on paper are the same: each can be read back.
 use mathlib.Core.Path.{_≡_, refl}
 use mathlib.Core.List.{List, [], _∷_}
 use Prim.Native.Nat.{ℕ}
@@ -7,13 +7,8 @@ use lib.ListN.{getD}
 use Rattle.problem.proofs.Replies.{read-back, toldOr, refused-back}
 use Rattle.tables.specs.declared.Examined.{Examined}
 use Rattle.tables.specs.declared.Examined.the-variants.{Fine, Refused}
-use Rattle.tables.specs.declared.Judged.{Judged}
-use Rattle.tables.specs.declared.Judged.the-variants.{Lawful, Unlawful, Refused as JudgedRefused}
-use Rattle.tables.specs.declared.Broken.{Broken}
-use Rattle.tables.specs.declared.Broken.the-variants.{Nowhere, Pair, Refused as BrokenRefused}
-use Rattle.tables.specs.Replies.{examinedTold, judgedTold, brokenTold}
+use Rattle.tables.specs.Replies.{examinedTold}
 
--- ---- an examination
 abbrev fines : List ℕ → List Examined
 fines values = Fine (record { boats = getD values 0 0; pairs = getD values 1 0; words = getD values 2 0 }) ∷ []
 
@@ -23,27 +18,3 @@ examined-back (Refused why) = refused-back (fines (examinedTold (Refused why) .v
 
 pub examined-one : (x y : Examined) → examinedTold x ≡ examinedTold y → x ≡ y
 examined-one = read-back examinedTold (λ w. toldOr (fines (w .values)) Refused w) examined-back
-
--- ---- whether a plan is lawful
-abbrev judgements : List Judged
-judgements = Lawful ∷ Unlawful ∷ []
-
-judged-back : (x : Judged) → toldOr judgements JudgedRefused (judgedTold x) ≡ x
-judged-back Lawful = refl
-judged-back Unlawful = refl
-judged-back (JudgedRefused why) = refused-back judgements JudgedRefused (omega arith) why
-
-pub judged-one : (x y : Judged) → judgedTold x ≡ judgedTold y → x ≡ y
-judged-one = read-back judgedTold (toldOr judgements JudgedRefused) judged-back
-
--- ---- a broken pair
-abbrev breaks : List ℕ → List Broken
-breaks values = Nowhere ∷ Pair (getD values 0 0) ∷ []
-
-broken-back : (x : Broken) → toldOr (breaks (brokenTold x .values)) BrokenRefused (brokenTold x) ≡ x
-broken-back Nowhere = refl
-broken-back (Pair k) = refl
-broken-back (BrokenRefused why) = refused-back (breaks (brokenTold (BrokenRefused why) .values)) BrokenRefused (omega arith) why
-
-pub broken-one : (x y : Broken) → brokenTold x ≡ brokenTold y → x ≡ y
-broken-one = read-back brokenTold (λ w. toldOr (breaks (w .values)) BrokenRefused w) broken-back

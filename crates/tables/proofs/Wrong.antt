@@ -9,13 +9,12 @@ use Rattle.problem.specs.Lowest.{lowestFrom, lowest, sum}
 use Rattle.problem.specs.Tables.{Tables, start}
 use Rattle.problem.specs.Replies.{Told, told, refused}
 use Rattle.tables.specs.Tests.{firstOf}
-use Rattle.tables.specs.Examination.{badPair, badWord, pairOfWord, examination}
-use Rattle.tables.specs.Questions.{broken, brokenQuestion}
+use Rattle.tables.specs.Examination.{examination}
 
 abbrev number : Told → ℕ
 number r = r .number
 
-abbrev place : Told → ℕ
+abbrev pub place : Told → ℕ
 place r = getD (r .values) 0 0
 
 -- no boat at all
@@ -25,10 +24,6 @@ nothing = record { sizes = []; pairs = []; rows = [] }
 -- boats 0 and 2 have no slot
 abbrev twoAtFault : Tables
 twoAtFault = record { sizes = 0 ∷ 1 ∷ 0 ∷ []; pairs = []; rows = [] }
-
--- harbour case D: three boats of two slots, no two at the same
-abbrev caseD : Tables
-caseD = record { sizes = 2 ∷ 2 ∷ 2 ∷ []; pairs = 0 ∷ 1 ∷ 0 ∷ 2 ∷ 1 ∷ 2 ∷ []; rows = 2 ∷ 1 ∷ 2 ∷ 1 ∷ 2 ∷ 1 ∷ [] }
 
 -- one that always refuses
 pub always-refused : (w : Told) → 100 ≤ w .number → w ≡ examination nothing → ⊥
@@ -44,8 +39,3 @@ never-refused e = eqb-false 0 103 refl (ap number e)
 pub last-refused : refused 3 2 ≡ examination twoAtFault → ⊥
 unfolding examination firstOf lowest lowestFrom start sum
 last-refused e = eqb-false 2 0 refl (ap place e)
-
--- one that names the last broken pair instead of the lowest
-pub last-broken : told 1 (2 ∷ []) ≡ brokenQuestion caseD (1 ∷ 1 ∷ 1 ∷ []) → ⊥
-unfolding brokenQuestion broken firstOf lowest lowestFrom start sum badPair badWord pairOfWord
-last-broken e = eqb-false 2 0 refl (ap place e)

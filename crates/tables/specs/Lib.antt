@@ -2,5 +2,4 @@ pub mod Tests
 pub mod Applies
 pub mod Examination
 pub mod Framed
-pub mod Questions
 pub mod Replies

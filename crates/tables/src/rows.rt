@@ -1,6 +1,6 @@
 // Number 7: the row words.
 ghost use mathlib.Core.Path.{_≡_};
-ghost use Prim.Native.Nat.{_-_, _^_, _<_, _≤_};
+ghost use Prim.Native.Nat.{_-_, _^_, _≤_};
 ghost use lib.Dec.{leb};
 ghost use lib.ListN.{length, getD};
 ghost use Rattle.problem.specs.Lowest.{lowest, lowestFrom};

@@ -11,7 +11,7 @@ pub fn given(text: &[u8], at: usize, sizes: &[u8], pairs: &[u8], rows: &[u64]) {
 
 fn both(sizes: &[u8], pairs: &[u8], rows: &[u64], plan: &[u8]) {
     say::text(b"p");
-    say::judged(tables::is_lawful(sizes, pairs, rows, plan));
-    say::broken(tables::first_broken(sizes, pairs, rows, plan));
+    say::judged(questions::is_lawful(sizes, pairs, rows, plan));
+    say::broken(questions::first_broken(sizes, pairs, rows, plan));
     say::text(b"\n");
 }

@@ -3,9 +3,9 @@ use problem::Allowance;
 use problem::Answer;
 use problem::Refusal;
 use problem::Reply;
-use tables::Broken;
+use questions::Broken;
+use questions::Judged;
 use tables::Examined;
-use tables::Judged;
 
 pub fn text(words: &[u8]) {
     io::write_all(1, words);

@@ -10,10 +10,10 @@ pub fn shown(text: &[u8], at: usize, sizes: &[u8], pairs: &[u8], rows: &[u64]) {
 }
 
 fn of_pair(sizes: &[u8], pairs: &[u8], rows: &[u64], lower: usize, higher: usize) {
-    let part = tables::place_of_rows(sizes, pairs, rows, lower, higher);
+    let part = questions::place_of_rows(sizes, pairs, rows, lower, higher);
     say::text(b"s");
     say::number(part.from as u64);
     say::number(part.to as u64);
-    say::words(tables::rows_of_pair(sizes, pairs, rows, lower, higher));
+    say::words(questions::rows_of_pair(sizes, pairs, rows, lower, higher));
     say::text(b"\n");
 }

@@ -1,6 +1,6 @@
 use mathlib.Core.Path.{ap}
 use borrow.Author.Needs.{needs}
-use Rattle.tables.proofs.Shown.{shown-inside}
+use Rattle.questions.proofs.Shown.{shown-inside}
 use Rattle.harbour.specs.Handed.{handedPart}
 use Rattle.harbour.proofs.harbour_rows.Statement.{statement}
 use Rattle.harbour.proofs.harbour_rows.Tie as tie

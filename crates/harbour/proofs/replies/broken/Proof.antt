@@ -1,7 +1,7 @@
 use mathlib.Core.Path.{sym, ap, _∙_}
 use borrow.Author.Needs.{needs}
-use Rattle.tables.specs.Replies.{brokenTold}
-use Rattle.tables.specs.declared.Broken.{Broken}
+use Rattle.questions.specs.Replies.{brokenTold}
+use Rattle.questions.specs.declared.Broken.{Broken}
 use Rattle.harbour.specs.Handed.{handed}
 use Rattle.harbour.proofs.replies.broken.Statement.{statement}
 use Rattle.harbour.proofs.replies.broken.Tie as tie

@@ -1,7 +1,7 @@
 use mathlib.Core.Path.{sym, ap, _∙_}
 use borrow.Author.Needs.{needs}
-use Rattle.tables.specs.Replies.{judgedTold}
-use Rattle.tables.specs.declared.Judged.{Judged}
+use Rattle.questions.specs.Replies.{judgedTold}
+use Rattle.questions.specs.declared.Judged.{Judged}
 use Rattle.harbour.specs.Handed.{handed}
 use Rattle.harbour.proofs.replies.judged.Statement.{statement}
 use Rattle.harbour.proofs.replies.judged.Tie as tie

@@ -1,13 +1,12 @@
 // Numbers 10 and 11, and the lowest broken pair: a given plan, after the examination.
 ghost use mathlib.Core.Path.{_≡_};
-ghost use Prim.Native.Nat.{_<_};
 ghost use lib.ListN.{length};
 ghost use Rattle.problem.specs.Lowest.{lowest};
 ghost use Rattle.problem.specs.Tables.{Tables, tables};
 ghost use Rattle.problem.specs.Sane.{Sane};
 ghost use Rattle.problem.specs.Plans.{Plan};
-ghost use Rattle.tables.specs.Questions.{badSlot, broken, brokenQuestion};
-ghost use Rattle.tables.specs.Replies.{brokenTold};
+ghost use Rattle.questions.specs.Questions.{badSlot, broken, brokenQuestion};
+ghost use Rattle.questions.specs.Replies.{brokenTold};
 use crate::Broken;
 use problem::Refusal;
 

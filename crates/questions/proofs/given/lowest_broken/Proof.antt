@@ -10,10 +10,10 @@ use Rattle.problem.specs.Tables.{tables, listed, start}
 use Rattle.problem.specs.Plans.{keeps}
 use Rattle.problem.proofs.Lowest.{lowest-here, lowest-none}
 use Rattle.problem.proofs.Starts.{start-zero}
-use Rattle.tables.specs.Questions.{broken}
-use Rattle.tables.proofs.Keeping.{low-named, high-named, row-inside, slot-small, keeps-is, next-row, next-inside}
-use Rattle.tables.proofs.given.lowest_broken.Statement.{statement}
-use Rattle.tables.proofs.given.lowest_broken.Tie as tie
+use Rattle.questions.specs.Questions.{broken}
+use Rattle.questions.proofs.Keeping.{low-named, high-named, row-inside, slot-small, keeps-is, next-row, next-inside}
+use Rattle.questions.proofs.given.lowest_broken.Statement.{statement}
+use Rattle.questions.proofs.given.lowest_broken.Tie as tie
 
 abbrev Inv-loop : tie.InvT-loop
 Inv-loop sizes pairs rows plan count start₀ k₀ start k =

@@ -3,9 +3,9 @@ use Prim.Native.Nat.{_≤_}
 use borrow.Author.Needs.{needs}
 use native.Mathlib.Omega.{arith}
 use lib.ListN.{length}
-use Rattle.tables.proofs.Shown.{shown-inside}
-use Rattle.tables.proofs.rows_of_pair.Statement.{statement}
-use Rattle.tables.proofs.rows_of_pair.Tie as tie
+use Rattle.questions.proofs.Shown.{shown-inside}
+use Rattle.questions.proofs.rows_of_pair.Statement.{statement}
+use Rattle.questions.proofs.rows_of_pair.Tie as tie
 
 place-of-rows-requires : tie.Need-place-of-rows-requires
 place-of-rows-requires c κs = search needs

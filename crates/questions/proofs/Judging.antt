@@ -1,7 +1,7 @@
 -- The questions about a given plan, as the code goes through them.
 use mathlib.Core.Path.{_≡_, refl, sym, ap, _∙_}
 use mathlib.Core.Bool.{Bool, true, false}
-use mathlib.Core.List.{List, [], _∷_, _++_}
+use mathlib.Core.List.{List, [], _∷_}
 use Prim.Native.Nat.{ℕ, _≤_, _<_}
 use native.Mathlib.Omega.{arith}
 use borrow.Author.Tests.{leb-false, lt-ltb, le-ltb, eq-eqb, ne-eqb}
@@ -12,23 +12,14 @@ use Rattle.problem.specs.Sane.{Sane}
 use Rattle.problem.specs.Plans.{Plan}
 use Rattle.problem.specs.Replies.{Told, told, refused}
 use Rattle.problem.proofs.Lowest.{none-lowest}
 use Rattle.tables.specs.Tests.{Test, each, firstOf}
-use Rattle.tables.specs.Applies.{NoneApplies, none, nor, Gives, here, later}
 use Rattle.tables.specs.Examination.{tests, examination}
-use Rattle.tables.specs.Questions.{badSlot, givenTests, broken, someBroken, yesOrNo, lawfulQuestion, pairOrNone, brokenQuestion}
 use Rattle.tables.proofs.Bools.{fails-not, passes-not}
-use Rattle.tables.proofs.Examining.{applies, passes, fails-passes, once-applies, once-passes, outcome}
-use Rattle.tables.proofs.Laws.{planTests, none-fine, gives-first, fine-none, small-none, large-gives}
+use Rattle.tables.proofs.Examining.{applies, passes, once-applies, once-passes, outcome}
+use Rattle.tables.proofs.Laws.{none-fine, gives-first, small-none, large-gives, after-none, gives-before, fine-none}
 use Rattle.tables.proofs.Fine.{sane-fine}
-
--- ---- tests after others
-pub after-none : (pre post : List Test) (o : Told) → NoneApplies pre → firstOf (pre ++ post) o ≡ firstOf post o
-after-none pre post o none = refl
-after-none pre post o (nor {test} {tests} f n) = fails-passes test (tests ++ post) o f ∙ after-none tests post o n
-
-pub gives-before : (pre post : List Test) (w : Told) → Gives pre w → Gives (pre ++ post) w
-gives-before pre post w (here {test} {tests} k l p f) = here k l p f
-gives-before pre post w (later {test} {tests} f g) = later f (gives-before tests post w g)
+use Rattle.questions.specs.Questions.{badSlot, givenTests, broken, someBroken, yesOrNo, lawfulQuestion, pairOrNone, brokenQuestion}
+use Rattle.questions.proofs.Laws.{planTests}
 
 -- ---- the tables are fit, and the plan is looked at
 module _ (t : Tables) (given : List ℕ) (sane : Sane t) where

@@ -2,11 +2,11 @@
 use mathlib.Core.Path.{sym, ap, _∙_}
 use borrow.Author.Needs.{needs}
 use native.Mathlib.Omega.{arith}
 use Rattle.tables.specs.Replies.{examinedTold}
 use Rattle.tables.proofs.Fine.{fine-sane}
-use Rattle.tables.proofs.Judging.{refused-first}
-use Rattle.tables.proofs.first_broken.Statement.{statement}
-use Rattle.tables.proofs.first_broken.Tie as tie
+use Rattle.questions.proofs.Judging.{refused-first}
+use Rattle.questions.proofs.first_broken.Statement.{statement}
+use Rattle.questions.proofs.first_broken.Tie as tie
 
 examine-requires : tie.Need-examine-requires
 examine-requires c κs = search needs

@@ -8,9 +8,9 @@ use borrow.Author.Tests.{le-leb, lt-leb}
 use native.Mathlib.Omega.{arith}
 use lib.ListN.{length}
 use Rattle.problem.proofs.Lowest.{lowest-here, lowest-none}
-use Rattle.tables.specs.Questions.{badSlot}
-use Rattle.tables.proofs.given.first_bad_slot.Statement.{statement}
-use Rattle.tables.proofs.given.first_bad_slot.Tie as tie
+use Rattle.questions.specs.Questions.{badSlot}
+use Rattle.questions.proofs.given.first_bad_slot.Statement.{statement}
+use Rattle.questions.proofs.given.first_bad_slot.Tie as tie
 
 abbrev Inv-loop : tie.InvT-loop
 Inv-loop sizes plan i₀ i = (i ≤ length sizes) × ((j : ℕ) → j < i → badSlot sizes plan j ≡ false)

@@ -3,10 +3,10 @@ use mathlib.Core.Path.{ap}
 use mathlib.Core.Bool.{true, false}
 use borrow.Author.Needs.{needs}
 use native.Mathlib.Omega.{arith}
-use Rattle.tables.specs.Replies.{brokenTold}
-use Rattle.tables.proofs.Judging.{refused-alike, answered-alike}
-use Rattle.tables.proofs.is_lawful.Statement.{statement}
-use Rattle.tables.proofs.is_lawful.Tie as tie
+use Rattle.questions.specs.Replies.{brokenTold}
+use Rattle.questions.proofs.Judging.{refused-alike, answered-alike}
+use Rattle.questions.proofs.is_lawful.Statement.{statement}
+use Rattle.questions.proofs.is_lawful.Tie as tie
 
 first-broken-requires : tie.Need-first-broken-requires
 first-broken-requires c κs = search needs

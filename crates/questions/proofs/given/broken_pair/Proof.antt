@@ -1,8 +1,8 @@
 -- Each return gives the refusal of the first test that applies, and after them what the lowest broken pair says.
 use borrow.Author.Needs.{needs}
-use Rattle.tables.proofs.Judging.{judged-10, judged-11, judged-pair, judged-none, planned}
-use Rattle.tables.proofs.given.broken_pair.Statement.{statement}
-use Rattle.tables.proofs.given.broken_pair.Tie as tie
+use Rattle.questions.proofs.Judging.{judged-10, judged-11, judged-pair, judged-none, planned}
+use Rattle.questions.proofs.given.broken_pair.Statement.{statement}
+use Rattle.questions.proofs.given.broken_pair.Tie as tie
 
 returns : tie.Need-returns
 returns c = judged-10 _ _ (search needs) (c .if1 .taken)

@@ -3,13 +3,13 @@ use mathlib.Core.Path.{_≡_, sym, ap, _∙_}
 use borrow.Author.Needs.{needs}
 use native.Mathlib.Omega.{arith}
 use Rattle.problem.specs.Tables.{Tables, tables}
 use Rattle.tables.specs.declared.Examined.the-variants.{Fine}
 use Rattle.tables.specs.Examination.{examination}
 use Rattle.tables.specs.Replies.{examinedTold}
 use Rattle.tables.proofs.Fine.{fine-sane}
-use Rattle.tables.proofs.Shown.{shown-refused, shown-unlisted, shown-summable, shown-named, shown-listed}
-use Rattle.tables.proofs.place_of_rows.Statement.{statement}
-use Rattle.tables.proofs.place_of_rows.Tie as tie
+use Rattle.questions.proofs.Shown.{shown-refused, shown-unlisted, shown-summable, shown-named, shown-listed}
+use Rattle.questions.proofs.place_of_rows.Statement.{statement}
+use Rattle.questions.proofs.place_of_rows.Tie as tie
 
 examine-requires : tie.Need-examine-requires
 examine-requires c κs = search needs
