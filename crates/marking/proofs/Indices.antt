@@ -12,7 +12,7 @@ use Rattle.events.specs.Counts.{checkCounted}
 use Rattle.methods.specs.Choices.{mayStand}
 use Rattle.words.specs.Places.{index, tri}
 use Rattle.words.specs.Layout.{word, indexOf, Indexed}
-use Rattle.words.proofs.Linking.{index-unlisted, index-listed, listed-index}
+use Rattle.words.proofs.Indexed.{index-unlisted, index-listed, listed-index}
 use Rattle.words.proofs.Rows.{row-there, row-allows}
 use Rattle.visits.specs.declared.Look.{Look}
 use Rattle.visits.specs.Looks.{checkedLook}

@@ -17,7 +17,7 @@ fn prepare_ahead(sizes: &[u8], pairs: &[u8], rows: &[u64], work: &mut [u64])
     requires { λ _. ⌜ used ≤ length (now work) ⌝ }
     ensures { λ t _. ⌜ PreparedAhead t (now (work .entry)) (now (work .exit)) ⌝ }
 {
-    words::index_ahead(sizes, pairs, rows, work);
+    index::index_ahead(sizes, pairs, rows, work);
     live_words::fill_level(sizes, pairs, rows, work);
     live_words::copy_level(sizes.len(), 0, work);
 }
@@ -31,8 +31,8 @@ pub fn prepare(moves: Moves, sizes: &[u8], pairs: &[u8], rows: &[u64], work: &mu
     ensures { λ t _. ⌜ Prepared moves t (now (work .entry)) (now (work .exit)) ⌝ }
 {
     match moves {
-        Moves::LookingBack(_) => words::link_back(sizes, pairs, rows, work),
-        Moves::Marking => words::index_back(sizes, pairs, rows, work),
+        Moves::LookingBack(_) => index::link_back(sizes, pairs, rows, work),
+        Moves::Marking => index::index_back(sizes, pairs, rows, work),
         Moves::LookingAhead(_) => prepare_ahead(sizes, pairs, rows, work),
     }
 }

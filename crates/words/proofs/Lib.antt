@@ -3,10 +3,7 @@ pub mod Triangle
 pub mod ChangedOnly
 pub mod Zeroed
 pub mod Firsts
-pub mod Back
 pub mod Links
 pub mod Rows
-pub mod Linking
-pub mod Linked
+pub mod Indexed
 pub mod Frames
-pub mod Ahead

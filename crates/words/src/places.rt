@@ -1,4 +1,8 @@
 // Where each kind of word begins, as docs/WORDS.md has it. (specs/Places.antt has the same numbers for the contracts.)
+ghost use mathlib.Core.Path.{_≡_};
+ghost use Prim.Native.Nat.{_+_, _<_};
+ghost use Rattle.words.specs.Places.{tri, index};
+
 pub struct Words {}
 
 impl Words {
@@ -23,4 +27,12 @@ impl Words {
     pub const LEVELS: usize = 4096;
 
     pub const NEXT_LEVEL: usize = 4160;
+}
+
+// The index row of a boat: its words for the boats below it.
+pub fn row_at(boat: usize) -> usize
+    requires { ⌜ boat < 64 ⌝ }
+    ensures { λ r. ⌜ r ≡ index + tri boat ⌝ }
+{
+    Words::INDEX + (boat * boat - boat) / 2
 }

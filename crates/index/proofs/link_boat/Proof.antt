@@ -5,11 +5,11 @@ use borrow.Author.Needs.{needs}
 use native.Mathlib.Omega.{arith}
 use lib.ListN.{length}
 use Rattle.problem.specs.Tables.{tables}
 use Rattle.words.specs.Layout.{word}
 use Rattle.words.proofs.Triangle.{tri-small}
-use Rattle.words.proofs.Linking.{RowTo, row-none, row-bounds, row-index-few, row-past, row-link, row-all}
-use Rattle.words.proofs.index.link_boat.Statement.{statement}
-use Rattle.words.proofs.index.link_boat.Tie as tie
+use Rattle.index.proofs.Linking.{RowTo, row-none, row-bounds, row-index-few, row-past, row-link, row-all}
+use Rattle.index.proofs.link_boat.Statement.{statement}
+use Rattle.index.proofs.link_boat.Tie as tie
 
 abbrev Inv-loop : tie.InvT-loop
 Inv-loop sizes pairs rows i from work₀ row to₀ h₀ work to h = RowTo (tables sizes pairs rows) work₀ work i from to h

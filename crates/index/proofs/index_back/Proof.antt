@@ -4,10 +4,10 @@ use Prim.Native.Nat.{_+_, _-_, _<_}
 use borrow.Author.Needs.{needs}
 use native.Mathlib.Omega.{arith}
 use Rattle.problem.specs.Tables.{tables, size, listed}
 use Rattle.words.specs.Places.{tri}
-use Rattle.words.proofs.Back.{indexPlace, BackTo, indexPlace-lt, back-none, back-few, back-more, back-all}
-use Rattle.words.proofs.index.index_back.Statement.{statement}
-use Rattle.words.proofs.index.index_back.Tie as tie
+use Rattle.index.proofs.Back.{indexPlace, BackTo, indexPlace-lt, back-none, back-few, back-more, back-all}
+use Rattle.index.proofs.index_back.Statement.{statement}
+use Rattle.index.proofs.index_back.Tie as tie
 
 abbrev Inv-loop : tie.InvT-loop
 Inv-loop sizes pairs rows work₀ count start₀ k₀ work start k = BackTo (tables sizes pairs rows) work₀ work start k

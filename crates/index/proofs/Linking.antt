@@ -3,7 +3,7 @@ use mathlib.Core.Path.{_≡_, refl, ap, _∙_}
 use mathlib.Core.Logic.{inr}
 use mathlib.Core.Bool.{Bool, true, false}
 use mathlib.Core.List.{List}
-use Prim.Native.Nat.{ℕ, suc, _+_, _-_, _*_, _≤_, _<_}
+use Prim.Native.Nat.{ℕ, _+_, _-_, _*_, _≤_, _<_}
 use native.Mathlib.Numerals.{add-one}
 use native.Mathlib.Omega.{arith}
 use lib.ListN.{length, set}
@@ -11,50 +11,29 @@ use lib.Seq.{getD-set-same, getD-set-other}
 use Rattle.problem.specs.Tables.{Tables, place, isListed, start}
 use Rattle.problem.specs.Sane.{Sane}
 use Rattle.problem.proofs.Places.{listed-lt}
 use Rattle.words.specs.Places.{tri}
 use Rattle.words.specs.Layout.{word, ChangedOnly, indexOf}
 use Rattle.words.specs.Links.{linkOf, Links}
 use Rattle.words.specs.Links.Links.{none}
 use Rattle.words.proofs.ChangedOnly.{only-refl, only-trans, only-set, only-widen}
+use Rattle.words.proofs.Indexed.{index-unlisted, index-listed, unlisted-index, listed-index}
 use Rattle.words.proofs.Firsts.{start-few}
 use Rattle.words.proofs.Links.{links-bounds, links-stay, links-past, links-link}
 
--- ---- what an index word says of the link
+-- ---- the link that an index word gives
 module _ (t : Tables) (h i index : ℕ) (e : index ≡ indexOf t h i) where
-  pub index-unlisted : isListed (t .pairs) h i ≡ false → index ≡ 0
-  unfolding indexOf
-  index-unlisted u = e ∙ rw (u, indexOf)
-
-  pub index-listed : isListed (t .pairs) h i ≡ true → index ≡ suc (start (t .sizes) (t .pairs) (place (t .pairs) h i))
-  unfolding indexOf
-  index-listed l = e ∙ rw (l, indexOf)
-
-  unlisted-index : index ≡ 0 → isListed (t .pairs) h i ≡ false
-  unlisted-index z = by (isListed (t .pairs) h i) refl
-    where
-      by : (b : Bool) → isListed (t .pairs) h i ≡ b → b ≡ false
-      by false l = refl
-      by true l = absurd (omega (arith, index-listed l))
-
-  pub listed-index : 0 < index → isListed (t .pairs) h i ≡ true
-  listed-index pos = by (isListed (t .pairs) h i) refl
-    where
-      by : (b : Bool) → isListed (t .pairs) h i ≡ b → b ≡ true
-      by true l = refl
-      by false l = absurd (omega (arith, index-unlisted l))
-
   -- the link, as the code finds it
   link-found : 0 < index → (index - 1) * 64 + h ≡ linkOf t h i
-  link-found pos = omega (arith, index-listed (listed-index pos))
+  link-found pos = omega (arith, index-listed t h i index e (listed-index t h i index e pos))
 
   index-few : Sane t → index ≤ 129025
   index-few s = by (isListed (t .pairs) h i) refl
     where
       by : (b : Bool) → isListed (t .pairs) h i ≡ b → index ≤ 129025
-      by false l = omega (arith, index-unlisted l)
+      by false l = omega (arith, index-unlisted t h i index e l)
       by true l =
           let q = listed-lt (t .pairs) h i l in
-          omega (arith, index-listed l, s .fewPairs, start-few t s (place (t .pairs) h i) (omega arith))
+          omega (arith, index-listed t h i index e l, s .fewPairs, start-few t s (place (t .pairs) h i) (omega arith))
 
 -- ---- one boat's row
 -- before boat h, whose link would be at 512 + to

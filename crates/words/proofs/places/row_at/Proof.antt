@@ -1,8 +1,8 @@
 -- The formula of the triangular numbers.
 use native.Mathlib.Omega.{arith}
 use Rattle.words.proofs.Triangle.{tri-twice, tri-small}
-use Rattle.words.proofs.index.row_at.Statement.{statement}
-use Rattle.words.proofs.index.row_at.Tie as tie
+use Rattle.words.proofs.places.row_at.Statement.{statement}
+use Rattle.words.proofs.places.row_at.Tie as tie
 
 mul-result : tie.Need-mul-result
 mul-result c = omega (arith, tri-twice (c .args .boat), tri-small (c .args .boat) (c .pre))

@@ -5,10 +5,10 @@ use borrow.Author.Needs.{needs}
 use native.Mathlib.Omega.{arith}
 use lib.ListN.{length, length-set}
 use Rattle.problem.specs.Tables.{tables}
 use Rattle.words.proofs.ChangedOnly.{only-trans, only-set, only-widen}
-use Rattle.words.proofs.Linked.{LinkedTo, linked-none, linked-at, linked-more, linked-all}
-use Rattle.words.proofs.index.link_back.Statement.{statement}
-use Rattle.words.proofs.index.link_back.Tie as tie
+use Rattle.index.proofs.Linked.{LinkedTo, linked-none, linked-at, linked-more, linked-all}
+use Rattle.index.proofs.link_back.Statement.{statement}
+use Rattle.index.proofs.link_back.Tie as tie
 
 abbrev Inv-loop : tie.InvT-loop
 Inv-loop sizes pairs rows work₀ n at₀ i₀ work at i = LinkedTo (tables sizes pairs rows) work₀ work at i

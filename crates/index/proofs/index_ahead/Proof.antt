@@ -4,9 +4,9 @@ use borrow.Author.Needs.{needs}
 use native.Mathlib.Omega.{arith}
 use lib.ListN.{length, length-set}
 use Rattle.problem.specs.Tables.{tables}
-use Rattle.words.proofs.Ahead.{AheadTo, ahead-none, ahead-few, ahead-more, ahead-all}
-use Rattle.words.proofs.index.index_ahead.Statement.{statement}
-use Rattle.words.proofs.index.index_ahead.Tie as tie
+use Rattle.index.proofs.Ahead.{AheadTo, ahead-none, ahead-few, ahead-more, ahead-all}
+use Rattle.index.proofs.index_ahead.Statement.{statement}
+use Rattle.index.proofs.index_ahead.Tie as tie
 
 abbrev Inv-loop : tie.InvT-loop
 Inv-loop sizes pairs rows work₀ n k₀ start₀ i₀ work k start i = AheadTo (tables sizes pairs rows) work₀ work k start i

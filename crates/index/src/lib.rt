@@ -5,18 +5,10 @@ ghost use lib.ListN.{length};
 ghost use Rattle.problem.specs.Rising.{Rising};
 ghost use Rattle.problem.specs.Tables.{Tables, tables, boats};
 ghost use Rattle.problem.specs.Sane.{Sane};
 ghost use Rattle.words.specs.Places.{tri, starts, index, marks, linkAt, indexAt, used, rowStartsEnd};
 ghost use Rattle.words.specs.Layout.{word, indexOf, firstPair, ChangedOnly, Zero, Indexed, Firsts};
 ghost use Rattle.words.specs.Links.{Links, Linked};
-use crate::places::Words;
-
-// The index row of a boat: its words for the boats below it.
-pub fn row_at(boat: usize) -> usize
-    requires { ⌜ boat < 64 ⌝ }
-    ensures { λ r. ⌜ r ≡ index + tri boat ⌝ }
-{
-    Words::INDEX + (boat * boat - boat) / 2
-}
+use words::Words;
 
 // For BM: at each two boats' word, one more than where the rows of their pair begin. An unlisted pair's word stays 0.
 pub fn index_back(sizes: &[u8], pairs: &[u8], rows: &[u64], work: &mut [u64])
@@ -32,7 +24,7 @@ pub fn index_back(sizes: &[u8], pairs: &[u8], rows: &[u64], work: &mut [u64])
     let mut k: usize = 0;
     while k < count {
         let low = problem::lower_of(pairs, k);
-        let at = row_at(problem::higher_of(pairs, k)) + low;
+        let at = words::row_at(problem::higher_of(pairs, k)) + low;
         work[at] = (start as u64) + 1;
         start += problem::size_of(sizes, low);
         k += 1;
@@ -56,7 +48,7 @@ fn link_boat(
     ensures { λ t r. ⌜ (r ≤ from + i) × Links t (now (work .exit)) i i 0 from r ⌝ }
     ensures { λ _ r. ⌜ ChangedOnly (linkAt from) (indexAt i i) (now (work .entry)) (now (work .exit)) ⌝ }
 {
-    let row = row_at(i);
+    let row = words::row_at(i);
     let mut to = from;
     let mut h: usize = 0;
     while h < i {

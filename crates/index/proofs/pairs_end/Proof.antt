@@ -5,9 +5,9 @@ use borrow.Author.Count.{below-more}
 use borrow.Author.Needs.{needs}
 use native.Mathlib.Omega.{arith}
 use Rattle.problem.specs.Tables.{listed, lower}
 use Rattle.words.proofs.Firsts.{first-le, first-below, first-from, first-here, first-none}
-use Rattle.words.proofs.index.pairs_end.Statement.{statement}
-use Rattle.words.proofs.index.pairs_end.Tie as tie
+use Rattle.index.proofs.pairs_end.Statement.{statement}
+use Rattle.index.proofs.pairs_end.Tie as tie
 
 abbrev Inv-loop : tie.InvT-loop
 Inv-loop pairs from boat count k₀ k = (from ≤ k) × (k ≤ listed pairs) × ((j : ℕ) → j < k → lower pairs j < boat + 1)

@@ -1,0 +1,4 @@
+pub mod Back
+pub mod Linking
+pub mod Linked
+pub mod Ahead
