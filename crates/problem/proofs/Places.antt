@@ -73,6 +73,10 @@ module _ (t : Tables) (h a i b : ℕ) where
   unfolding allowed
   allowed-listed e = rw (e, allowed)
 
+-- the lower boat of a listed pair is a boat too
+pub lower-named : (t : Tables) → Sane t → (k : ℕ) → k < listed (t .pairs) → lower (t .pairs) k < boats t
+lower-named t s k l = omega (arith, s .lowerFirst k l, s .boatsNamed k l)
+
 -- a plan keeps every listed pair exactly when it is allowed at every two boats
 module _ (t : Tables) (plan : List ℕ) where
   pub kept-allowed : ((k : ℕ) → k < listed (t .pairs) → T (keeps t plan k)) → (h i : ℕ) → allowed t h (slot plan h) i (slot plan i) ≡ true

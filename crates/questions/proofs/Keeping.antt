@@ -7,12 +7,13 @@ use lib.ListN.{length, getD}
 use Rattle.problem.specs.Tables.{Tables, boats, size, listed, lower, higher, start, bit}
 use Rattle.problem.specs.Sane.{Sane}
 use Rattle.problem.specs.Plans.{slot, keeps, Plan}
+use Rattle.problem.proofs.Places.{lower-named}
 use Rattle.problem.proofs.Starts.{start-next, start-within}
 
 -- the pair k at hand names the boats low and high, to which the plan gives the slots a and b, and its rows begin at `at`
 module _ {t : Tables} {plan : List ℕ} (sane : Sane t) (isPlan : Plan t plan) {k : ℕ} (l : k < listed (t .pairs)) where
   pub low-named : {low : ℕ} → low ≡ lower (t .pairs) k → low < boats t
-  low-named e = omega (arith, sane .lowerFirst k l, sane .boatsNamed k l)
+  low-named e = omega (arith, lower-named t sane k l)
 
   pub high-named : {high : ℕ} → high ≡ higher (t .pairs) k → high < boats t
   high-named e = omega (arith, sane .boatsNamed k l)

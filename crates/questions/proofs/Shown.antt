@@ -10,7 +10,7 @@ use lib.ListN.{length, getD}
 use Rattle.problem.specs.Tables.{Tables, boats, size, listed, lower, place, isListed, start}
 use Rattle.problem.specs.Replies.{Told, told}
 use Rattle.problem.proofs.Starts.{start-suc, start-mono}
-use Rattle.problem.proofs.Places.{both-true, place-pair, listed-lt, lt-listed, unlisted-le}
+use Rattle.problem.proofs.Places.{both-true, place-pair, listed-lt, lt-listed, unlisted-le, lower-named}
 use Rattle.tables.specs.Examination.{examination, Fine}
 use Rattle.tables.proofs.Fine.{fine-sane, fine-told}
 use Rattle.questions.specs.declared.Part.{Part}
@@ -47,18 +47,15 @@ module _ (t : Tables) (h i : ℕ) where
       inside : place (t .pairs) h i < listed (t .pairs)
       inside = omega (arith, count-is)
 
-      lower-named : (k : ℕ) → k < listed (t .pairs) → lower (t .pairs) k < boats t
-      lower-named k m = let s = fine-sane t fine in omega (arith, s .lowerFirst k m, s .boatsNamed k m)
-
       -- what the sum of the words before the pair's asks
       pub shown-summable : (length (t .pairs) ≤ 4032)
           × ((pair ≤ listed (t .pairs)) × ((k : ℕ) → k < pair → lower (t .pairs) k < boats t))
       shown-summable =
           let s = fine-sane t fine in
-          (omega (arith, s .twoBytes, s .fewPairs), (omega (arith, inside), λ k m. lower-named k (omega (arith, inside))))
+          (omega (arith, s .twoBytes, s .fewPairs), (omega (arith, inside), λ k m. lower-named t s k (omega (arith, inside))))
 
       pub shown-named : h < boats t
-      shown-named = omega (arith, lower-named (place (t .pairs) h i) inside, place-pair (t .pairs) h i inside .0)
+      shown-named = omega (arith, lower-named t (fine-sane t fine) (place (t .pairs) h i) inside, place-pair (t .pairs) h i inside .0)
 
       pub shown-listed : {from wide : ℕ} → from ≡ start (t .sizes) (t .pairs) pair → wide ≡ size (t .sizes) h
           → record { from = from; to = from + wide } ≡ rowsShown t h i

@@ -13,6 +13,7 @@ use Rattle.problem.specs.Tables.{Tables, boats, size, listed, lower, start}
 use Rattle.problem.specs.Rising.{Rising}
 use Rattle.problem.specs.Sane.{Sane}
 use Rattle.problem.proofs.Lowest.{lowest-le, lowest-fails, lowest-passes, lowest-here, lowest-none, lowest-before}
+use Rattle.problem.proofs.Places.{lower-named}
 use Rattle.problem.proofs.Starts.{start-zero, start-suc}
 use Rattle.words.specs.Layout.{firstPair}
 
@@ -86,5 +87,4 @@ module _ (sizes pairs : List ℕ) where
 pub start-few : (t : Tables) → Sane t → (k : ℕ) → k ≤ listed (t .pairs) → start (t .sizes) (t .pairs) k ≤ 64 * k
 start-few t s zero le = omega (arith, start-zero (t .sizes) (t .pairs))
 start-few t s (suc k) le =
-    let b : lower (t .pairs) k < boats t = omega (arith, s .lowerFirst k le, s .boatsNamed k le) in
-    omega (arith, start-suc (t .sizes) (t .pairs) k, s .fewSlots (lower (t .pairs) k) b, start-few t s k (omega arith))
+    omega (arith, start-suc (t .sizes) (t .pairs) k, s .fewSlots (lower (t .pairs) k) (lower-named t s k le), start-few t s k (omega arith))

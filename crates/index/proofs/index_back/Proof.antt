@@ -4,6 +4,7 @@ use Prim.Native.Nat.{_+_, _-_, _<_}
 use borrow.Author.Needs.{needs}
 use native.Mathlib.Omega.{arith}
 use Rattle.problem.specs.Tables.{tables, size, listed}
+use Rattle.problem.proofs.Places.{lower-named}
 use Rattle.words.specs.Places.{tri}
 use Rattle.index.proofs.Back.{indexPlace, BackTo, indexPlace-lt, back-none, back-few, back-more, back-all}
 use Rattle.index.proofs.index_back.Statement.{statement}
@@ -65,7 +66,7 @@ size-of-requires c κs =
     let s = S (head c) .pre .0 in
     let k = head c .loop .k in
     let l = c .before .before .before .loop-test .taken in
-    omega (arith, s .lowerFirst k l, s .boatsNamed k l)
+    omega (arith, lower-named _ s k l)
 
 add-start : tie.Need-add-start Inv-loop μ-loop
 add-start c = let l = head (c .before) in omega (arith, back-few (S l .pre .0) (l .loop .inv))
