@@ -9,7 +9,7 @@ use native.Mathlib.Numerals.{add-one}
 use native.Mathlib.Omega.{arith}
 use borrow.Author.Tests.{le-leb, lt-leb, leb-true, leb-false}
 use lib.Dec.{leb}
-use Rattle.problem.specs.Tables.{Tables, boats, size, listed, lower, start}
+use Rattle.problem.specs.Tables.{Tables, size, listed, lower, start}
 use Rattle.problem.specs.Rising.{Rising}
 use Rattle.problem.specs.Sane.{Sane}
 use Rattle.problem.proofs.Lowest.{lowest-le, lowest-fails, lowest-passes, lowest-here, lowest-none, lowest-before}
