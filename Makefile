@@ -1,7 +1,8 @@
 # make run      builds the library, proved, and an example; plans a harbour with it
 # make outside  holds the library, through its C header, to the second program and to lists of due
 #               answers: SECONDS=n says how long fresh seeds are drawn, SEED=n repeats a run
-# make bench    times the library beside a plain C search; `target/bench/bench each` then gives a line
+# make bench    times the library beside a plain C search that gcc and, where there is one, clang
+#               build (GCC=.. and CLANG=.. name others); `target/bench/bench each` then gives a line
 #               for each file too
 # make vectors  writes the stored problems and replies of crates/vectors anew
 # make gate     proves every crate from nothing, tries the must-fail edits, runs the programs
@@ -17,7 +18,8 @@ SANITIZED = -O1 -g -fsanitize=address,undefined -fno-sanitize-recover=all
 LIBRARY = target/staticlib/libharbour.a
 SECOND = target/second/release/second
 EXAMPLE = target/example/harbour
-BENCH = target/bench/bench
+BENCHED = target/bench
+BENCH = $(BENCHED)/bench
 OUTSIDE = target/outside
 
 SECONDS = 60
@@ -38,10 +40,10 @@ $(LIBRARY): $(PROVED)
 	@mkdir -p target
 	@rt staticlib harbour 2>&1 | tee target/harbour.log | grep --line-buffered '^rt:' || { cat target/harbour.log; exit 1; }
 
-# One program of the C files among what it is made from, and the library.
+# One program of the C files among what it is made from, of what is compiled already, and the library.
 define compiled
 @mkdir -p $(@D)
-@$(CC) $(CFLAGS) $(INCLUDED) -o $@ $(filter %.c %.a,$^)
+@$(CC) $(CFLAGS) $(INCLUDED) -o $@ $(filter %.c %.o %.a,$^)
 endef
 
 INCLUDED = -Iinclude -Ic
@@ -50,9 +52,28 @@ HEADERS := include/harbour.h $(wildcard c/*.h)
 $(EXAMPLE): $(wildcard example/*.[ch] c/*.c) $(HEADERS) $(LIBRARY)
 	$(compiled)
 
+# The plain C is built by both compilers for one machine; each build ends its names in its compiler's.
+GCC = $(if $(findstring gcc,$(CC)),$(CC),gcc)
+CLANG = clang --target=$(shell $(GCC) -dumpmachine)
+COMPILERS := gcc $(if $(shell command -v $(firstword $(CLANG))),clang)
+PLAIN = plain examine call
+PLAIN_NAMES = plain_run plain_examine plain_call plain_version
+
+define built_by
+@mkdir -p $(@D)
+@$(2) $(CFLAGS) $(INCLUDED) $(foreach name,$(PLAIN_NAMES),-D$(name)=$(name)_$(1)) -c -o $@ $<
+endef
+
+$(BENCHED)/gcc/%.o: bench/%.c bench/plain.h $(HEADERS)
+	$(call built_by,gcc,$(GCC))
+
+$(BENCHED)/clang/%.o: bench/%.c bench/plain.h $(HEADERS)
+	$(call built_by,clang,$(CLANG))
+
 # Aligned functions: where the plain search falls in memory should not decide how fast it is.
-$(BENCH): CFLAGS += -O3 -falign-functions=64
-$(BENCH): $(wildcard bench/*.[ch] c/*.c) $(HEADERS) $(LIBRARY)
+$(BENCH): CFLAGS += -O3 -falign-functions=64 $(if $(filter clang,$(COMPILERS)),-DWITH_CLANG)
+$(BENCH): $(filter-out $(PLAIN:%=bench/%.c),$(wildcard bench/*.[ch])) $(wildcard c/*.c) $(HEADERS) $(LIBRARY) \
+    $(foreach by,$(COMPILERS),$(PLAIN:%=$(BENCHED)/$(by)/%.o))
 	$(compiled)
 
 $(SECOND): $(shell find outside/second -name '*.rs' -o -name 'Cargo.*')

@@ -32,6 +32,18 @@ static void sixty_four(draft *d, unsigned file)
         make_queens(d, HARBOUR_BOATS);
 }
 
+/* Document 01's cases A, B and C, whose searches are next to nothing. */
+static void tiny(draft *d, unsigned file)
+{
+    static const uint64_t apart[] = { 2, 1 };
+    start_draft(d);
+    add_boats(d, file, file);
+    if (file == 2)
+        add_pair(d, 0, 1, apart);
+}
+
+const family tiny_tables = { "tiny tables", 3, HARBOUR_AMPLE, tiny };
+
 const family families[] = {
     { "queens 8 to 20", QUEENS_MOST - QUEENS_LEAST + 1, 30000000, queens },
     { "zebra", 12, 5000000, make_zebra },

@@ -11,10 +11,10 @@ typedef struct {
     void (*make)(draft *d, unsigned file);
 } family;
 
-extern const family families[];
+extern const family families[], tiny_tables;
 extern const unsigned family_count;
 
-/* Of all families. */
+/* Of all families; the tiny tables are none. */
 unsigned file_count(void);
 
 #endif

@@ -1,4 +1,5 @@
-/* The five searches in plain C, for speed: the steps and counts of the library's, and no proof. */
+/* Plain C beside the library, for speed: the steps and counts of the library's searches, and no proof. Both compilers
+   build it into one program; the Makefile ends each one's names in its own. */
 #ifndef PLAIN_H
 #define PLAIN_H
 
@@ -6,5 +7,14 @@
 
 /* As the library's run. The tables must be fit; nothing is examined. */
 outcome plain_run(const draft *of, uint64_t method, uint64_t checks, uint64_t trials);
+
+/* As the library's examination. */
+harbour_reply plain_examine(const tables *t);
+
+/* plain_run and what the library does before and after it: the tables are examined, the working words cleared twice. */
+outcome plain_call(const draft *of, uint64_t method, uint64_t checks, uint64_t trials);
+
+/* Of the compiler. */
+extern const char plain_version[];
 
 #endif

@@ -1,0 +1,94 @@
+#include "measure.h"
+
+#include <stdio.h>
+#include <stdlib.h>
+#include <string.h>
+#include <time.h>
+
+enum { ROUNDS = 4 };
+
+static const double STRETCH = 0.02;
+
+const char *const method_name[METHODS] = {
+    [HARBOUR_BT] = "BT", [HARBOUR_CBJ] = "CBJ", [HARBOUR_BM] = "BM", [HARBOUR_FC] = "FC", [HARBOUR_FC_CBJ] = "FC-CBJ",
+};
+
+static double now(void)
+{
+    struct timespec t;
+    clock_gettime(CLOCK_PROCESS_CPUTIME_ID, &t);
+    return (double)t.tv_sec + 1e-9 * (double)t.tv_nsec;
+}
+
+static outcome run_once(const job *j, int side)
+{
+    return j->by[side](j->of, j->method, j->allowance, j->allowance);
+}
+
+/* Seconds a run, over so many runs. */
+static double stretch(const job *j, int side, unsigned runs)
+{
+    double from = now();
+    for (unsigned k = 0; k < runs; k++)
+        run_once(j, side);
+    return (now() - from) / runs;
+}
+
+static void differ(const job *j, const outcome *o)
+{
+    printf("DIFFER: %s, file %u, %s\n", j->family, j->file, method_name[j->method]);
+    for (int side = LIBRARY; side < SIDES; side++)
+        printf("  %s: answer %llu, checks %llu, trials %llu\n", side_name[side],
+               (unsigned long long)o[side].reply.answer, (unsigned long long)o[side].reply.checks,
+               (unsigned long long)o[side].reply.trials);
+    exit(1);
+}
+
+outcome agreed(const job *j)
+{
+    outcome o[SIDES];
+    for (int side = LIBRARY; side < SIDES; side++)
+        o[side] = run_once(j, side);
+    for (int side = GCC; side < SIDES; side++)
+        if (memcmp(&o[LIBRARY], &o[side], sizeof *o) != 0)
+            differ(j, o);
+    return o[LIBRARY];
+}
+
+sums measured(const job *j)
+{
+    outcome o = agreed(j);
+    sums s = { 1, o.reply.checks, o.reply.trials, { 0 } };
+    double once = stretch(j, GCC, 1);
+    unsigned runs = once < STRETCH ? (unsigned)(STRETCH / (once + 1e-9)) + 1 : 1;
+    for (int round = 0; round < ROUNDS; round++)
+        for (int side = LIBRARY; side < SIDES; side++) {
+            double took = stretch(j, side, runs);
+            if (round == 0 || took < s.seconds[side])
+                s.seconds[side] = took;
+        }
+    return s;
+}
+
+void add(sums *to, const sums *s)
+{
+    to->jobs += s->jobs;
+    to->checks += s->checks;
+    to->trials += s->trials;
+    for (int side = LIBRARY; side < SIDES; side++)
+        to->seconds[side] += s->seconds[side];
+}
+
+double ratio(const sums *s, int side)
+{
+    return s->seconds[LIBRARY] / s->seconds[side];
+}
+
+double larger_ratio(const sums *s)
+{
+    double larger = 0;
+    for (int side = GCC; side < SIDES; side++)
+        if (ratio(s, side) > larger)
+            larger = ratio(s, side);
+    return larger;
+}

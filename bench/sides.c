@@ -1,0 +1,27 @@
+#include "sides.h"
+
+#include <stdio.h>
+
+/* plain.h's names, as the two builds have them. */
+runner plain_run_gcc, plain_call_gcc, plain_run_clang, plain_call_clang;
+extern const char plain_version_gcc[], plain_version_clang[];
+
+#ifdef WITH_CLANG
+#define EACH(library, gcc, clang) { [LIBRARY] = library, [GCC] = gcc, [CLANG] = clang }
+#else
+#define EACH(library, gcc, clang) { [LIBRARY] = library, [GCC] = gcc }
+#endif
+
+runner *const searches[SIDES] = EACH(run, plain_run_gcc, plain_run_clang);
+runner *const calls[SIDES] = EACH(run, plain_call_gcc, plain_call_clang);
+const char *const side_name[SIDES] = EACH("library", "gcc", "clang");
+
+void print_compilers(void)
+{
+#ifdef WITH_CLANG
+    printf("The plain C is built by gcc (%s) and by clang (%s); the larger ratio counts.\n", plain_version_gcc,
+           plain_version_clang);
+#else
+    printf("The plain C is built by gcc (%s) alone: clang was not found.\n", plain_version_gcc);
+#endif
+}
