@@ -1,8 +1,9 @@
--- The trials and the checks of two lists of events, one after the other.
-use mathlib.Core.Path.{_≡_}
+-- How many trials and checks there are: in two lists of events, one after the other, and in all.
+use mathlib.Core.Path.{_≡_, refl}
 use mathlib.Core.List.{List, [], _∷_, _++_}
 use Prim.Native.Nat.{_+_}
 use native.Mathlib.Omega.{arith}
+use lib.ListN.{length}
 use Rattle.events.specs.Events.{Event, trial, check, trialsOf, checksOf, trials, checks}
 
 -- their trials are the trials of the first and those of the second
@@ -18,3 +19,10 @@ unfolding checksOf
 checks-append [] fs = omega arith
 checks-append (trial i a ∷ es) fs = checks-append es fs
 checks-append (check h x i a ∷ es) fs = omega (arith, checks-append es fs)
+
+-- every event is one or the other
+pub length-counts : (es : List Event) → length es ≡ trials es + checks es
+unfolding trialsOf checksOf
+length-counts [] = refl
+length-counts (trial i a ∷ es) = omega (arith, length-counts es)
+length-counts (check h x i a ∷ es) = omega (arith, length-counts es)

@@ -12,7 +12,7 @@ use Rattle.events.specs.Allowances.{undecided, outcome, cutFrom}
 use Rattle.events.proofs.Counting.{trials-append, checks-append}
 
 -- a trial is counted when the trials made are not yet as many as allowed
-pub cut-trial : (ca ta c t i a : ℕ) (es : List Event) (r : Ending) → t ≢ ta → cutFrom ca ta c t (trial i a ∷ es) r ≡ cutFrom ca ta c (suc t) es r
+cut-trial : (ca ta c t i a : ℕ) (es : List Event) (r : Ending) → t ≢ ta → cutFrom ca ta c t (trial i a ∷ es) r ≡ cutFrom ca ta c (suc t) es r
 unfolding cutFrom
 cut-trial ca ta c t i a es r ne = rw (ne-eqb t ta ne, cutFrom)
 
@@ -22,7 +22,7 @@ unfolding cutFrom
 cut-no-trial ca ta c t i a es r e = rw (eq-eqb t ta e, cutFrom)
 
 -- a check is counted when the checks made are not yet as many as allowed
-pub cut-check : (ca ta c t h x i a : ℕ) (es : List Event) (r : Ending) → c ≢ ca → cutFrom ca ta c t (check h x i a ∷ es) r ≡ cutFrom ca ta (suc c) t es r
+cut-check : (ca ta c t h x i a : ℕ) (es : List Event) (r : Ending) → c ≢ ca → cutFrom ca ta c t (check h x i a ∷ es) r ≡ cutFrom ca ta (suc c) t es r
 unfolding cutFrom
 cut-check ca ta c t h x i a es r ne = rw (ne-eqb c ca ne, cutFrom)
 

@@ -2,3 +2,4 @@ pub mod Back
 pub mod Linking
 pub mod Linked
 pub mod Ahead
+pub mod Chain

@@ -8,7 +8,7 @@ use native.Mathlib.Numerals.{add-one}
 use native.Mathlib.Omega.{arith}
 use lib.ListN.{length, set}
 use lib.Seq.{getD-set-same, getD-set-other}
-use Rattle.problem.specs.Tables.{Tables, place, isListed, start}
+use Rattle.problem.specs.Tables.{Tables, place, isListed}
 use Rattle.problem.specs.Sane.{Sane}
 use Rattle.problem.proofs.Places.{listed-lt}
 use Rattle.words.specs.Places.{tri}

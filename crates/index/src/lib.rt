@@ -1,12 +1,12 @@
-// Where the rows of each pair begin, found once a run.
+// What the pairs are looked up by, found once a run: where their rows begin, and where the live words before them stand.
 ghost use mathlib.Core.Path.{_≡_};
 ghost use Prim.Native.Nat.{ℕ, _+_, _≤_, _<_};
 ghost use lib.ListN.{length};
 ghost use Rattle.problem.specs.Rising.{Rising};
 ghost use Rattle.problem.specs.Tables.{Tables, tables, boats};
 ghost use Rattle.problem.specs.Sane.{Sane};
-ghost use Rattle.words.specs.Places.{tri, starts, index, marks, linkAt, indexAt, used, rowStartsEnd};
-ghost use Rattle.words.specs.Layout.{word, indexOf, firstPair, ChangedOnly, Zero, Indexed, Firsts};
+ghost use Rattle.words.specs.Places.{tri, starts, rowStartsEnd, lasts, index, marks, linkAt, indexAt, used};
+ghost use Rattle.words.specs.Layout.{word, indexOf, firstPair, ChangedOnly, Zero, Indexed, Firsts, Chained};
 ghost use Rattle.words.specs.Links.{Links, Linked};
 use words::Words;
 
@@ -122,4 +122,28 @@ pub fn index_ahead(sizes: &[u8], pairs: &[u8], rows: &[u64], work: &mut [u64])
         i += 1;
     }
     work[Words::STARTS + n] = k as u64;
+}
+
+// For looking ahead: where the live word before each pair stands, and each boat's last.
+pub fn chain_ahead(sizes: &[u8], pairs: &[u8], rows: &[u64], work: &mut [u64])
+    ghost { Tables }
+    requires { λ t. ⌜ tables (now sizes) (now pairs) (now rows) ≡ t ⌝ }
+    requires { λ t. ⌜ Sane t ⌝ }
+    requires { λ _. ⌜ used ≤ length (now work) ⌝ }
+    ensures { λ t _. ⌜ Chained t (now (work .exit)) ⌝ }
+    ensures { λ _ _. ⌜ ChangedOnly lasts marks (now (work .entry)) (now (work .exit)) ⌝ }
+{
+    let mut j: usize = 0;
+    while j < sizes.len() {
+        work[Words::LASTS + j] = (Words::ALLS + j) as u64;
+        j += 1;
+    }
+    let count = pairs.len() / 2;
+    let mut k: usize = 0;
+    while k < count {
+        let last = Words::LASTS + problem::higher_of(pairs, k);
+        work[Words::PREVS + k] = work[last];
+        work[last] = (Words::LIVES + k) as u64;
+        k += 1;
+    }
 }

@@ -1,5 +1,5 @@
--- The words once a visit's answer is stored: what they hold, and what is then to come.
-use mathlib.Core.Path.{_≡_, refl, sym, ap, ap₂, _∙_, fun-ext, subst₂}
+-- The words once a visit's answer is stored: what they hold, and what is then remembered.
+use mathlib.Core.Path.{_≡_, refl, ap, _∙_, fun-ext}
 use mathlib.Core.Logic.{inl}
 use mathlib.Core.List.{List, [], _∷_, _++_}
 use Prim.Native.Nat.{ℕ, suc, _+_, _^_, _≤_, _<_}
@@ -11,20 +11,15 @@ use lib.Pow.{pow-pos}
 use lib.ListN.{length, take, set, length-set}
 use lib.Seq.{take-suc-set, take-set-le, getD-set-same, getD-set-other}
 use Rattle.problem.specs.Tables.{Tables, size}
-use Rattle.events.specs.Events.{Search}
-use Rattle.events.specs.declared.Counts.{Counts}
-use Rattle.events.specs.Counts.{Leads}
-use Rattle.methods.specs.Machine.{searchFrom}
-use Rattle.methods.specs.Moves.{Forward}
-use Rattle.words.specs.Places.{levels, used, setAt, nextSetAt}
+use Rattle.words.specs.Places.{lives, used, setAt, nextSetAt}
 use Rattle.words.specs.Layout.{word, ChangedOnly, Placed}
 use Rattle.words.specs.Sets.{setWords, SetsBelow}
 use Rattle.words.proofs.ChangedOnly.{only-trans, only-set, only-widen, only-take}
 use Rattle.visits.specs.declared.Backward.{Backward}
 use Rattle.visits.specs.declared.Backward.the-variants.{OneBack, BySets}
-use Rattle.visits.specs.Visits.{stepsOver, state, toCome, toComeAfter}
+use Rattle.visits.specs.Visits.{state}
 use Rattle.moves.specs.Memory.{SetsKept}
-use Rattle.labelling.specs.Stored.{passedWords, spentWords, begunSet}
+use Rattle.labelling.specs.Stored.{passedWords, setStored, begunSet}
 
 -- ---- the sets, from words that agree with those before: of boat i, whose set is s, ..
 module _ (w u : List ℕ) (i s : ℕ) (own : word u (setAt i) ≡ s) (below : (k : ℕ) → k < i → word u (setAt k) ≡ word w (setAt k)) where
@@ -81,40 +76,39 @@ pub begun-below : (backward : Backward) (w : List ℕ) (i : ℕ) → SetsKept ba
 begun-below OneBack w i x = pow-pos i
 begun-below BySets w i x = x i (le-refl i)
 
-pub come-begun : (t : Tables) (F : Forward (Unit {0})) (backward : Backward) (w : List ℕ) (i a : ℕ) {s : ℕ} → s ≡ begunSet backward w i →
-    toCome t F backward w i a s ≡ toCome t F backward w i a (word w (setAt i))
-come-begun t F OneBack w i a e = refl
-come-begun t F BySets w i a e = ap (toCome t F BySets w i a) e
+pub begun-state : (backward : Backward) (w : List ℕ) (i : ℕ) {x : ℕ} → x ≡ begunSet backward w i → state backward (setWords w i x) ≡ state backward (setWords w i (word w (setAt i)))
+begun-state OneBack w i e = refl
+begun-state BySets w i e = ap (λ (y : ℕ). state BySets (setWords w i y)) e
 
--- ---- a visit of boat i has gone from the words w to v; slot b passed, with the set s, and what is done after storing it leaves u
-pub record Passing (w v u : List ℕ) (i b s : ℕ) : Type 0 where
+-- ---- a visit of boat i has gone from the words w to v
+pub record Visiting (w v : List ℕ) (i : ℕ) : Type 0 where
   pub few : i < 64
   pub room : used ≤ length w
-  pub visit : ChangedOnly levels used w v
-  pub after : ChangedOnly levels used (passedWords v i b s) u
+  pub visit : ChangedOnly lives used w v
 
-module _ {w v u : List ℕ} {i b s : ℕ} (c : Passing w v u i b s) where
+-- slot b passed, and is stored with the set s; what is done after that leaves u
+module _ {w v : List ℕ} {i : ℕ} (c : Visiting w v i) (b s : ℕ) {u : List ℕ} (after : ChangedOnly lives used (passedWords v i b s) u) where
   abbrev put : List ℕ
   put = set (set v i b) (setAt i) s
 
+  -- all other words are as the visit left them
+  passed-after : (k : ℕ) → k < 4096 → (k ≡ i → ⊥) → (k ≡ setAt i → ⊥) → (k ≡ nextSetAt i → ⊥) → word u k ≡ word v k
+  passed-after k l x y z =
+      after .others k (inl l) ∙ getD-set-other put (nextSetAt i) k 0 0 z ∙ getD-set-other (set v i b) (setAt i) k s 0 y ∙ getD-set-other v i k b 0 x
+
   pub passed-other : (k : ℕ) → k < 4096 → (k ≡ i → ⊥) → (k ≡ setAt i → ⊥) → (k ≡ nextSetAt i → ⊥) → word u k ≡ word w k
-  passed-other k l x y z =
-      c .after .others k (inl l)
-      ∙ getD-set-other put (nextSetAt i) k 0 0 z
-      ∙ getD-set-other (set v i b) (setAt i) k s 0 y
-      ∙ getD-set-other v i k b 0 x
-      ∙ c .visit .others k (inl l)
+  passed-other k l x y z = passed-after k l x y z ∙ c .visit .others k (inl l)
 
   passed-slot : word u i ≡ b
   passed-slot =
-      c .after .others i (inl (omega (arith, c .few)))
+      after .others i (inl (omega (arith, c .few)))
       ∙ getD-set-other put (nextSetAt i) i 0 0 (omega (arith, c .few))
       ∙ getD-set-other (set v i b) (setAt i) i s 0 (omega (arith, c .few))
       ∙ getD-set-same v i b 0 (omega (arith, c .few, c .room, c .visit .long))
 
   passed-own : word u (setAt i) ≡ s
   passed-own =
-      c .after .others (setAt i) (inl (omega (arith, c .few)))
+      after .others (setAt i) (inl (omega (arith, c .few)))
       ∙ getD-set-other put (nextSetAt i) (setAt i) 0 0 (omega (arith, c .few))
       ∙ getD-set-same (set v i b) (setAt i) s 0 (omega (arith, length-set v i b, c .few, c .room, c .visit .long))
 
@@ -122,7 +116,7 @@ module _ {w v u : List ℕ} {i b s : ℕ} (c : Passing w v u i b s) where
   passed-none =
       let e : setAt (suc i) ≡ nextSetAt i = omega arith in
       ap (word u) e
-      ∙ c .after .others (nextSetAt i) (inl (omega (arith, c .few)))
+      ∙ after .others (nextSetAt i) (inl (omega (arith, c .few)))
       ∙ getD-set-same put (nextSetAt i) 0 0 (omega (arith, length-set (set v i b) (setAt i) s, length-set v i b, c .few, c .room, c .visit .long))
 
   passed-below : (k : ℕ) → k < i → word u (setAt k) ≡ word w (setAt k)
@@ -130,7 +124,7 @@ module _ {w v u : List ℕ} {i b s : ℕ} (c : Passing w v u i b s) where
 
   pub passed-plan : take (suc i) u ≡ take i w ++ (b ∷ [])
   passed-plan =
-      only-take (c .after) (suc i) (omega (arith, c .few)) (omega (arith, length-set put (nextSetAt i) 0, length-set (set v i b) (setAt i) s, length-set v i b, c .few, c .room, c .visit .long))
+      only-take after (suc i) (omega (arith, c .few)) (omega (arith, length-set put (nextSetAt i) 0, length-set (set v i b) (setAt i) s, length-set v i b, c .few, c .room, c .visit .long))
       ∙ take-set-le (suc i) put (nextSetAt i) 0 (omega (arith, c .few))
       ∙ take-set-le (suc i) (set v i b) (setAt i) s (omega (arith, c .few))
       ∙ take-suc-set v i b (omega (arith, c .few, c .room, c .visit .long))
@@ -141,7 +135,7 @@ module _ {w v u : List ℕ} {i b s : ℕ} (c : Passing w v u i b s) where
       only-trans (only-widen (omega (arith, c .few)) (omega (arith, c .few)) (c .visit))
       (only-trans (only-set v i b (omega (arith, c .few)) (omega (arith, c .few)))
       (only-trans (only-set (set v i b) (setAt i) s (omega (arith, c .few)) (omega (arith, c .few)))
-      (only-trans (only-set put (nextSetAt i) 0 (omega (arith, c .few)) (omega (arith, c .few))) (only-widen (omega (arith, c .few)) (omega (arith, c .few)) (c .after)))))
+      (only-trans (only-set put (nextSetAt i) 0 (omega (arith, c .few)) (omega (arith, c .few))) (only-widen (omega arith) (omega arith) after))))
 
   pub passed-placed : (t : Tables) → b < size (t .sizes) i → Placed t w i → Placed t u (suc i)
   passed-placed t lb x h lh = by (ℕ-discrete h i)
@@ -153,47 +147,36 @@ module _ {w v u : List ℕ} {i b s : ℕ} (c : Passing w v u i b s) where
   pub passed-sets : (backward : Backward) → s < 2 ^ i → SetsKept backward w i → SetsKept backward u (suc i)
   passed-sets = kept-next w u i s passed-own passed-below passed-none
 
-  pub passed-leads : (t : Tables) (F : Forward (Unit {0})) (backward : Backward) (a : ℕ) {x : ℕ} {m k : Counts} → x ≡ begunSet backward w i →
-      Leads m (toCome t F backward w i a x) k (toComeAfter t F backward w i b s) →
-      Leads m (toCome t F backward w i a (word w (setAt i))) k (toCome t F backward u (suc i) 0 (word u (setAt (suc i))))
-  passed-leads t F backward a {m = m} {k = k} e l =
-      subst₂ (λ (y z : Search). Leads m y k z) (come-begun t F backward w i a e)
-      (ap₂ (λ (q : List ℕ) (f : ℕ → ℕ). searchFrom t (stepsOver t F backward) q 0 (state backward f)) (sym passed-plan)
-      (sets-next w u i s passed-own passed-below passed-none))
-      l
+  pub passed-state : (backward : Backward) → state backward (setWords w i s) ≡ state backward (setWords u (suc i) (word u (setAt (suc i))))
+  passed-state backward = ap (state backward) (sets-next w u i s passed-own passed-below passed-none)
 
--- ---- no slot is left, and the set s is stored
-pub record Spending (w v : List ℕ) (i s : ℕ) : Type 0 where
-  pub few : i < 64
-  pub room : used ≤ length w
-  pub visit : ChangedOnly levels used w v
+-- the words of neither are as the visit left them
+pub stored-after : {i : ℕ} (v : List ℕ) (b s k : ℕ) → i < 64 → 129 ≤ k → word (passedWords v i b s) k ≡ word v k
+stored-after {i} v b s k few lo =
+    getD-set-other (set (set v i b) (setAt i) s) (nextSetAt i) k 0 0 (omega arith) ∙ getD-set-other (set v i b) (setAt i) k s 0 (omega arith) ∙ getD-set-other v i k b 0 (omega arith)
 
-module _ {w v : List ℕ} {i s : ℕ} (c : Spending w v i s) where
+-- the set s is stored, and no slot
+module _ {w v : List ℕ} {i : ℕ} (c : Visiting w v i) (s : ℕ) where
   abbrev left : List ℕ
-  left = spentWords v i s
+  left = setStored v i s
 
-  spent-own : word left (setAt i) ≡ s
-  spent-own = getD-set-same v (setAt i) s 0 (omega (arith, c .few, c .room, c .visit .long))
+  left-own : word left (setAt i) ≡ s
+  left-own = getD-set-same v (setAt i) s 0 (omega (arith, c .few, c .room, c .visit .long))
 
-  pub spent-other : (k : ℕ) → k < 4096 → (k ≡ setAt i → ⊥) → word left k ≡ word w k
-  spent-other k l n = getD-set-other v (setAt i) k s 0 n ∙ c .visit .others k (inl l)
+  pub left-other : (k : ℕ) → k < 4096 → (k ≡ setAt i → ⊥) → word left k ≡ word w k
+  left-other k l n = getD-set-other v (setAt i) k s 0 n ∙ c .visit .others k (inl l)
 
-  spent-below : (k : ℕ) → k < i → word left (setAt k) ≡ word w (setAt k)
-  spent-below k lk = spent-other (setAt k) (omega (arith, c .few)) (omega (arith, c .few))
+  left-below : (k : ℕ) → k < i → word left (setAt k) ≡ word w (setAt k)
+  left-below k lk = left-other (setAt k) (omega (arith, c .few)) (omega (arith, c .few))
 
-  pub spent-plan : take i left ≡ take i w
-  spent-plan = take-set-le i v (setAt i) s (omega (arith, c .few)) ∙ only-take (c .visit) i (omega (arith, c .few)) (omega (arith, c .few, c .room))
+  pub left-plan : take i left ≡ take i w
+  left-plan = take-set-le i v (setAt i) s (omega (arith, c .few)) ∙ only-take (c .visit) i (omega (arith, c .few)) (omega (arith, c .few, c .room))
 
-  pub spent-only : ChangedOnly 0 used w left
-  spent-only = only-trans (only-widen (omega (arith, c .few)) (omega (arith, c .few)) (c .visit)) (only-set v (setAt i) s (omega (arith, c .few)) (omega (arith, c .few)))
+  pub left-only : ChangedOnly 0 used w left
+  left-only = only-trans (only-widen (omega (arith, c .few)) (omega (arith, c .few)) (c .visit)) (only-set v (setAt i) s (omega (arith, c .few)) (omega (arith, c .few)))
 
-  pub spent-sets : (backward : Backward) → s < 2 ^ i → SetsKept backward w i → SetsKept backward left i
-  spent-sets = kept-stay w left i s spent-own spent-below
+  pub left-sets : (backward : Backward) → s < 2 ^ i → SetsKept backward w i → SetsKept backward left i
+  left-sets = kept-stay w left i s left-own left-below
 
-  pub spent-leads : (t : Tables) (F : Forward (Unit {0})) (backward : Backward) (a z : ℕ) {x : ℕ} {m k : Counts} → x ≡ begunSet backward w i →
-      Leads m (toCome t F backward w i a x) k (toCome t F backward w i z s) →
-      Leads m (toCome t F backward w i a (word w (setAt i))) k (toCome t F backward left i z (word left (setAt i)))
-  spent-leads t F backward a z {m = m} {k = k} e l =
-      subst₂ (λ (y n : Search). Leads m y k n) (come-begun t F backward w i a e)
-      (ap₂ (λ (q : List ℕ) (f : ℕ → ℕ). searchFrom t (stepsOver t F backward) q z (state backward f)) (sym spent-plan) (sets-stay w left i s spent-own spent-below))
-      l
+  pub left-state : (backward : Backward) → state backward (setWords w i s) ≡ state backward (setWords left i (word left (setAt i)))
+  left-state backward = ap (state backward) (sets-stay w left i s left-own left-below)

@@ -11,9 +11,9 @@ use Rattle.visits.specs.declared.Backward.the-variants.{OneBack, BySets}
 abbrev pub passedWords : List ℕ → (i b s : ℕ) → List ℕ
 passedWords w i b s = set (set (set w i b) (setAt i) s) (nextSetAt i) 0
 
--- boat i has no slot left, and the set s
-abbrev pub spentWords : List ℕ → (i s : ℕ) → List ℕ
-spentWords w i s = set w (setAt i) s
+-- boat i has no slot left, or the run ends at one: its set is s
+abbrev pub setStored : List ℕ → (i s : ℕ) → List ℕ
+setStored w i s = set w (setAt i) s
 
 -- the boat's own set, where the way back goes by sets
 abbrev pub begunSet : Backward → List ℕ → (i : ℕ) → ℕ

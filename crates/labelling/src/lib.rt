@@ -13,12 +13,12 @@ use moves::Moves;
 use visits::Backward;
 use visits::Visited;
 
-// What the forward move of every method answers.
+// What the forward move of every method answers. Where the run ends, the slot at hand; inside its step, how many of the step's events are made.
 pub enum Labelled {
     Passed(Counts),
     Spent(Counts),
-    OutOfChecks(Counts),
-    OutOfTrials(Counts),
+    OutOfChecks(Counts, u64, u64),
+    OutOfTrials(Counts, u64),
 }
 
 fn label_back(
@@ -39,16 +39,22 @@ fn label_back(
 {
     let with = storing::begun_set(backward, i, work);
     match looking_back::visit(sizes, pairs, rows, i, from, with, start, work) {
-        Visited::Passed(slot, set, k) => {
+        Visited::Passed(k, set, slot) => {
             storing::store_passed(i, slot, set, work);
             Labelled::Passed(k)
         }
-        Visited::Spent(set, k) => {
-            storing::store_spent(i, set, work);
+        Visited::Spent(k, set) => {
+            storing::store_set(i, set, work);
             Labelled::Spent(k)
         }
-        Visited::OutOfChecks(k) => Labelled::OutOfChecks(k),
-        Visited::OutOfTrials(k) => Labelled::OutOfTrials(k),
+        Visited::OutOfChecks(k, set, slot, made) => {
+            storing::store_set(i, set, work);
+            Labelled::OutOfChecks(k, slot, made)
+        }
+        Visited::OutOfTrials(k, set, slot) => {
+            storing::store_set(i, set, work);
+            Labelled::OutOfTrials(k, slot)
+        }
     }
 }
 
@@ -69,17 +75,17 @@ fn label_marked(
     ensures { λ t r. ⌜ Labels Marking t (now (work .entry)) i from start (now (work .exit)) r ⌝ }
 {
     match marking::visit(sizes, pairs, rows, i, from, start, work) {
-        Visited::Passed(slot, _, k) => {
+        Visited::Passed(k, _, slot) => {
             work[i] = slot;
             Labelled::Passed(k)
         }
-        Visited::Spent(_, k) => Labelled::Spent(k),
-        Visited::OutOfChecks(k) => Labelled::OutOfChecks(k),
-        Visited::OutOfTrials(k) => Labelled::OutOfTrials(k),
+        Visited::Spent(k, _) => Labelled::Spent(k),
+        Visited::OutOfChecks(k, _, slot, made) => Labelled::OutOfChecks(k, slot, made),
+        Visited::OutOfTrials(k, _, slot) => Labelled::OutOfTrials(k, slot),
     }
 }
 
-// The level after the next begins as a copy.
+// The live words are the visit's own; whom they blame is written once a slot has passed.
 fn label_ahead(
     backward: Backward,
     sizes: &[u8],
@@ -98,17 +104,23 @@ fn label_ahead(
 {
     let with = storing::begun_set(backward, i, work);
     match looking_ahead::visit(backward, sizes, pairs, rows, i, from, with, start, work) {
-        Visited::Passed(slot, set, k) => {
+        Visited::Passed(k, set, slot) => {
             storing::store_passed(i, slot, set, work);
-            live_words::copy_level(sizes.len(), i + 1, work);
+            live_words::blame(backward, sizes, pairs, rows, i, work);
             Labelled::Passed(k)
         }
-        Visited::Spent(set, k) => {
-            storing::store_spent(i, set, work);
+        Visited::Spent(k, set) => {
+            storing::store_set(i, set, work);
             Labelled::Spent(k)
         }
-        Visited::OutOfChecks(k) => Labelled::OutOfChecks(k),
-        Visited::OutOfTrials(k) => Labelled::OutOfTrials(k),
+        Visited::OutOfChecks(k, set, slot, made) => {
+            storing::store_set(i, set, work);
+            Labelled::OutOfChecks(k, slot, made)
+        }
+        Visited::OutOfTrials(k, set, slot) => {
+            storing::store_set(i, set, work);
+            Labelled::OutOfTrials(k, slot)
+        }
     }
 }
 

@@ -3,7 +3,7 @@ ghost use mathlib.Core.Path.{_≡_};
 ghost use Prim.Native.Nat.{_≤_, _<_};
 ghost use lib.ListN.{length};
 ghost use Rattle.words.specs.Places.{used};
-ghost use Rattle.labelling.specs.Stored.{passedWords, spentWords, begunSet};
+ghost use Rattle.labelling.specs.Stored.{passedWords, setStored, begunSet};
 use visits::Backward;
 use words::Words;
 
@@ -18,20 +18,20 @@ pub fn begun_set(backward: Backward, i: usize, work: &[u64]) -> u64
     }
 }
 
-// A slot of boat i has passed.
-pub fn store_passed(i: usize, slot: u64, set: u64, work: &mut [u64])
+// Boat i keeps its set: it has no slot left, or the run ends at one.
+pub fn store_set(i: usize, set: u64, work: &mut [u64])
     requires { ⌜ (i < 64) × (used ≤ length (now work)) ⌝ }
-    ensures { λ _. ⌜ now (work .exit) ≡ passedWords (now (work .entry)) i slot set ⌝ }
+    ensures { λ _. ⌜ now (work .exit) ≡ setStored (now (work .entry)) i set ⌝ }
 {
-    work[i] = slot;
     work[Words::SETS + i] = set;
-    work[Words::NEXT_SET + i] = 0;
 }
 
-// Boat i has no slot left.
-pub fn store_spent(i: usize, set: u64, work: &mut [u64])
+// A slot of boat i has passed, with these members in its set.
+pub fn store_passed(i: usize, slot: u64, members: u64, work: &mut [u64])
     requires { ⌜ (i < 64) × (used ≤ length (now work)) ⌝ }
-    ensures { λ _. ⌜ now (work .exit) ≡ spentWords (now (work .entry)) i set ⌝ }
+    ensures { λ _. ⌜ now (work .exit) ≡ passedWords (now (work .entry)) i slot members ⌝ }
 {
-    work[Words::SETS + i] = set;
+    work[i] = slot;
+    work[Words::SETS + i] = members;
+    work[Words::NEXT_SET + i] = 0;
 }

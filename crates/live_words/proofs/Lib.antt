@@ -1,4 +1,6 @@
 pub mod Words
 pub mod Openings
+pub mod Losses
 pub mod Live
-pub mod Loops
+pub mod Filled
+pub mod Blamed

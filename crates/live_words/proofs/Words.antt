@@ -1,6 +1,6 @@
 -- Words by their bits.
 use mathlib.Core.Path.{_≡_, refl, sym, ap, _∙_}
-use mathlib.Core.Bool.{Bool, false, _&&_, and-assoc, and-comm}
+use mathlib.Core.Bool.{Bool, true, false, _&&_, and-assoc, and-comm}
 use Prim.Native.Nat.{ℕ, zero, suc, _+_, _-_, _/_, _%_, _^_, _≤_, _<_}
 use native.Mathlib.Omega.{arith}
 use native.Mathlib.Nat.{mod-lt, zero-lt-suc, pow-suc, le-of-suc-le-suc}
@@ -62,3 +62,18 @@ below-shifted w from k l h =
     let z : from + (k - from) ≡ k = omega arith in
     sym (ap (λ (n : ℕ). eqb (n % 2) 1) (shr-shr w from (k - from) ∙ ap (λ (n : ℕ). w / 2 ^ n) z))
     ∙ below-trailing 64 (w / 2 ^ from) (k - from) (omega arith)
+
+-- ---- and that one itself
+pub at-trailing : (n w : ℕ) → trailingZeros n w < n → bit w (trailingZeros n w) ≡ true
+unfolding trailingZeros
+at-trailing zero w l = absurd (omega arith)
+at-trailing (suc n) w l = by (w % 2) refl l (at-trailing n (w / 2))
+  where
+    by : (r : ℕ) → w % 2 ≡ r → under r (trailingZeros n (w / 2)) < suc n → (trailingZeros n (w / 2) < n → bit (w / 2) (trailingZeros n (w / 2)) ≡ true) →
+        bit w (under r (trailingZeros n (w / 2))) ≡ true
+    by zero e l rec = sym (bit-half w (trailingZeros n (w / 2))) ∙ rec (le-of-suc-le-suc l)
+    by (suc r) e l rec = let d : w / 1 % 2 ≡ 1 = omega arith in eq-eqb (w / 1 % 2) 1 d
+
+pub at-shifted : (w from : ℕ) → trailingZeros 64 (w / 2 ^ from) < 64 → bit w (from + trailingZeros 64 (w / 2 ^ from)) ≡ true
+at-shifted w from l =
+    sym (ap (λ (n : ℕ). eqb (n % 2) 1) (shr-shr w from (trailingZeros 64 (w / 2 ^ from)))) ∙ at-trailing 64 (w / 2 ^ from) l

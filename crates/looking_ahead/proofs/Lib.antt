@@ -1,6 +1,2 @@
-pub mod Ones
-pub mod Pairs
-pub mod Sweeping
-pub mod Along
-pub mod Turns
+pub mod Trials
 pub mod Ahead

@@ -5,11 +5,11 @@ use lib.ListN.{take}
 use Rattle.problem.specs.Tables.{Tables}
 use Rattle.visits.specs.declared.Visited.{Visited}
 use Rattle.visits.specs.declared.Visited.the-variants.{Passed, Spent, OutOfChecks, OutOfTrials}
-use Rattle.live_words.specs.Lives.{Lives, Copied}
+use Rattle.live_words.specs.Lives.{Lives}
 
--- a slot that passed has the next level right; what was right before still is
+-- a slot that passed has the words of its boat's pairs right. (Those that the boats below left are not written: that is the other promise)
 abbrev pub LivesAfter : Tables → (w : List ℕ) → (i : ℕ) → (w′ : List ℕ) → Visited → Type 0
-LivesAfter t w i w′ (Passed b u k) = Lives t w′ (take i w ++ (b ∷ [])) (suc i) × Copied t w′ i
-LivesAfter t w i w′ (Spent u k) = Lives t w′ (take i w) i × Copied t w′ i
-LivesAfter t w i w′ (OutOfChecks k) = Unit {0}
-LivesAfter t w i w′ (OutOfTrials k) = Unit {0}
+LivesAfter t w i w′ (Passed k u b) = Lives t w′ (take i w ++ (b ∷ [])) (suc i)
+LivesAfter t w i w′ (Spent k u) = Unit {0}
+LivesAfter t w i w′ (OutOfChecks k u b made) = Unit {0}
+LivesAfter t w i w′ (OutOfTrials k u b) = Unit {0}

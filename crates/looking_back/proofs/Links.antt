@@ -1,19 +1,19 @@
 -- The links of a boat, for its trials: the next one is the next listed boat, and none left means that no listed boat is left.
-use mathlib.Core.Path.{_≡_, refl, _∙_}
+use mathlib.Core.Path.{_≡_}
 use mathlib.Core.Bool.{true}
 use mathlib.Core.List.{List}
-use mathlib.Core.Option.{Option, none as nobody}
 use Prim.Native.Nat.{ℕ, suc, _+_, _/_, _%_, _≤_, _<_}
 use native.Mathlib.Omega.{arith}
 use lib.ListN.{length}
 use Rattle.problem.specs.Tables.{Tables, boats, place, isListed, start}
-use Rattle.events.specs.Events.{Search}
+use Rattle.events.specs.declared.Counts.{Counts}
+use Rattle.methods.specs.BT.{Looked}
 use Rattle.words.specs.Places.{tri}
 use Rattle.words.specs.Layout.{word}
 use Rattle.words.specs.Links.{linkOf, Links, none, past, link, Linked}
 use Rattle.words.proofs.Triangle.{tri-small}
 use Rattle.words.proofs.Links.{links-bounds}
-use Rattle.visits.proofs.Looking.{from, from-past, from-end}
+use Rattle.visits.proofs.Looking.{Looking, looks-past}
 
 -- ---- what a link says
 module _ (t : Tables) (h i l : ℕ) (isLink : l ≡ linkOf t h i) (few : h < 64) where
@@ -32,7 +32,7 @@ module _ (t : Tables) (w : List ℕ) (i : ℕ) (le : i ≤ length w) where
     pub isLink : word w (512 + q) ≡ linkOf t boat i
     pub rest : Links t w i i (suc boat) (suc q) e
     -- the boats before it are unlisted
-    pub passed : (ended : Option ℕ → Search) (a : ℕ) → from ended t w i a h ≡ from ended t w i a boat
+    pub passed : {a : ℕ} {whole : Looked} {m n : Counts} → Looking t w i a whole m h n → Looking t w i a whole m boat n
 
   pub next : {h q e : ℕ} → Links t w i i h q e → q < e → Next h q e
   next none l = absurd (omega arith)
@@ -44,15 +44,16 @@ module _ (t : Tables) (w : List ℕ) (i : ℕ) (le : i ≤ length w) where
         listed = n .listed;
         isLink = n .isLink;
         rest = n .rest;
-        passed = λ ended a. from-past ended t w i a le h (omega (arith, links-bounds x)) f ∙ n .passed ended a;
+        passed = λ b. n .passed (looks-past le b (omega (arith, links-bounds x)) f);
       }
   next (link {h = h} f g x) l =
-      record { boat = h; below = omega (arith, links-bounds x); listed = f; isLink = g; rest = x; passed = λ ended a. refl }
+      record { boat = h; below = omega (arith, links-bounds x); listed = f; isLink = g; rest = x; passed = λ b. b }
 
-  pub none-left : {h q e : ℕ} → Links t w i i h q e → e ≤ q → (ended : Option ℕ → Search) (a : ℕ) → from ended t w i a h ≡ ended nobody
-  none-left none l ended a = from-end ended t w i a le i (omega arith)
-  none-left (past {h = h} f x) l ended a = from-past ended t w i a le h (omega (arith, links-bounds x)) f ∙ none-left x l ended a
-  none-left (link f g x) l ended a = absurd (omega (arith, links-bounds x))
+  -- no boat is left
+  pub none-left : {h q e : ℕ} → Links t w i i h q e → e ≤ q → {a : ℕ} {whole : Looked} {m n : Counts} → Looking t w i a whole m h n → Looking t w i a whole m i n
+  none-left none l b = b
+  none-left (past {h = h} f x) l b = none-left x l (looks-past le b (omega (arith, links-bounds x)) f)
+  none-left (link f g x) l b = absurd (omega (arith, links-bounds x))
 
 -- there are never more than 2,016
 pub links-few : (t : Tables) (w : List ℕ) (i : ℕ) → Linked t w → i < boats t → boats t ≤ 64 → word w (193 + i) ≤ 2016

@@ -1,60 +1,59 @@
--- A trial that looks back: where each step of a visit leads, under both ways back.
-use mathlib.Core.Path.{_≡_, refl, sym, ap, _∙_}
-use mathlib.Core.List.{List, [], _∷_}
-use mathlib.Core.Option.{Option}
-use Prim.Native.Nat.{ℕ, _+_, _≤_, _<_}
-use native.Mathlib.Numerals.{add-one}
-use lib.ListN.{length, take, drop}
+-- A trial that looks back: the step that it is, under both ways back, by what its looks come to.
+use mathlib.Core.Path.{_≡_, refl, ap, _∙_}
+use mathlib.Core.Bool.{true}
+use mathlib.Core.List.{List, [], _∷_, _++_}
+use mathlib.Core.Option.{Option, none, some}
+use Prim.Native.Nat.{ℕ, suc, _≤_, _<_}
+use lib.ListN.{length, take}
 use lib.Seq.{length-take-le}
 use Rattle.problem.specs.Tables.{Tables, boats, size}
-use Rattle.problem.specs.declared.Allowance.the-variants.{Trials}
 use Rattle.events.specs.declared.Counts.{Counts}
-use Rattle.events.specs.declared.Counted.{Counted}
-use Rattle.events.specs.declared.Counted.the-variants.{Within, Out as CountedOut}
-use Rattle.events.specs.Events.{trial, Search, _then_}
-use Rattle.events.specs.Allowances.{outcome, undecided}
-use Rattle.events.specs.Counts.{trialCounted, Fits, cutAt, Leads}
-use Rattle.events.proofs.Leading.{leads-eq, leads-trans, leads-trial, trial-out}
-use Rattle.methods.specs.Moves.{only}
-use Rattle.methods.specs.BT.{lookBack, blameFailing, lookingBack}
+use Rattle.events.specs.Events.{trial}
+use Rattle.methods.specs.Machine.{next, step}
+use Rattle.methods.specs.Moves.{pass, fail, only}
+use Rattle.methods.specs.BT.{Looked, lookBack, blameFailing, lookingBack}
 use Rattle.words.specs.Links.{Links}
-use Rattle.words.specs.Sets.{WithMember}
+use Rattle.words.specs.Sets.{WithMember, setWords}
 use Rattle.visits.specs.declared.Backward.{Backward}
-use Rattle.visits.specs.Visits.{toCome, toComeAfter}
-use Rattle.visits.proofs.Visiting.{settled, refused, come-trial, come-blamed, come-spent}
-
--- what is to come after a trial's looks: slot a passes, or the boat that failed is to blame
-abbrev pub ended : Tables → (backward : Backward) → List ℕ → (i a s : ℕ) → Option ℕ → Search
-ended t backward w i a s f = settled (blameFailing f) (toComeAfter t (lookingBack t) backward w i a s) (refused t (lookingBack t) backward w i a s)
-
--- slot a of boat i has passed the boats below h
-abbrev pub mid : Tables → (backward : Backward) → List ℕ → (i a s h : ℕ) → Search
-mid t backward w i a s h = lookBack t i a h (drop h (take i w)) .checks then ended t backward w i a s (lookBack t i a h (drop h (take i w)) .failing)
+use Rattle.visits.specs.Visits.{State, stepsOver, state}
+use Rattle.visits.proofs.Looking.{Looking}
+use Rattle.visits.proofs.Visiting.{trialOf, step-passes, step-fails, step-tries}
 
 -- slot a of boat i has passed the boats below h, whose links from there on are the words from `at` up to `end`
-pub record LookedTo (t : Tables) (w : List ℕ) (i a s end : ℕ) (begun : Counts) (at : ℕ) (m : Counts) : Type 0 where
+pub record LookedTo (t : Tables) (w : List ℕ) (i a end : ℕ) (begun : Counts) (at : ℕ) (n : Counts) : Type 0 where
   pub h : ℕ
   pub links : Links t w i i h at end
-  pub leads : (backward : Backward) → Leads begun (mid t backward w i a s 0) m (mid t backward w i a s h)
+  pub looking : Looking t w i a (lookBack t i a 0 (take i w)) begun h n
 
-module _ (t : Tables) (backward : Backward) (w : List ℕ) (i : ℕ) (le : i ≤ length w) (lt : i < boats t) where
-  tried : (a s : ℕ) → a < size (t .sizes) i → toCome t (lookingBack t) backward w i a s ≡ (trial i a ∷ []) then mid t backward w i a s 0
+module _ (t : Tables) (backward : Backward) (w : List ℕ) (i : ℕ) (le : i ≤ length w) (lt : i < boats t) (a s : ℕ) (la : a < size (t .sizes) i) where
+  abbrev whole : Looked
+  whole = lookBack t i a 0 (take i w)
+
+  is-live : lookingBack t .live tt (take i w) a ≡ true
   unfolding lookingBack
-  tried a s la = rw (length-take-le i w le) at (come-trial t (lookingBack t) backward w i le lt a s la refl)
+  is-live = refl
 
-  pub trial-on : (a s : ℕ) (m k : Counts) (r : Counted) → Fits m → a < size (t .sizes) i → r ≡ trialCounted m → r ≡ Within k →
-      Leads m (toCome t (lookingBack t) backward w i a s) k (mid t backward w i a s 0)
-  trial-on a s m k r f la e g = leads-trans (leads-eq m _ _ f (tried a s la)) (leads-trial m k _ f i a (sym e ∙ g))
+  is-trial : trialOf t (lookingBack t) backward w i le lt a s la ≡ trial i a ∷ whole .checks
+  unfolding lookingBack
+  is-trial = ap (λ (n : ℕ). trial i a ∷ lookBack t n a 0 (take i w) .checks) (length-take-le i w le)
 
-  pub trial-end : (a s : ℕ) (m k : Counts) (r : Counted) → Fits m → a < size (t .sizes) i → r ≡ trialCounted m → r ≡ CountedOut k →
-      cutAt m (toCome t (lookingBack t) backward w i a s) ≡ outcome (undecided Trials) (k .checks) (k .trials)
-  trial-end a s m k r f la e g = ap (cutAt m) (tried a s la) ∙ trial-out m k _ f i a (sym e ∙ g)
+  judged : (f : Option ℕ) → whole .failing ≡ f → lookingBack t .trial tt (take i w) a .verdict ≡ blameFailing f
+  unfolding lookingBack
+  judged f e = ap (λ (n : ℕ). blameFailing (lookBack t n a 0 (take i w) .failing)) (length-take-le i w le) ∙ ap blameFailing e
 
-  -- the boat that failed goes into the set, and the next slot is due
-  pub blamed-on : (a s h u : ℕ) (m : Counts) → Fits m → WithMember s h u →
-      Leads m (refused t (lookingBack t) backward w i a s (only h)) m (toCome t (lookingBack t) backward w i (a + 1) u)
-  blamed-on a s h u m f q = rw add-one (leads-eq m _ _ f (come-blamed t (lookingBack t) backward w i a s u (only h) (λ _. q .members)))
+  -- nobody fails: the slot passes
+  pub slot-passes : whole .failing ≡ none →
+      step t (stepsOver t (lookingBack t) backward) (take i w) a (state backward (setWords w i s))
+      ≡ next (trial i a ∷ whole .checks) (take i w ++ (a ∷ [])) 0 (state backward (setWords w i s))
+  slot-passes e = rw is-trial at (step-passes t (lookingBack t) backward w i le lt a s la is-live tt (judged none e))
 
-  pub no-slot : (a s : ℕ) (m : Counts) → Fits m → size (t .sizes) i ≤ a →
-      Leads m (toCome t (lookingBack t) backward w i a s) m (toCome t (lookingBack t) backward w i (size (t .sizes) i) s)
-  no-slot a s m f out = leads-eq m _ _ f (come-spent t (lookingBack t) backward w i le lt a s out)
+  -- boat h fails: it goes into the set
+  pub slot-fails : (h u : ℕ) → whole .failing ≡ some h → WithMember s h u →
+      step t (stepsOver t (lookingBack t) backward) (take i w) a (state backward (setWords w i s))
+      ≡ next (trial i a ∷ whole .checks) (take i w) (suc a) (state backward (setWords w i u))
+  slot-fails h u e m = rw is-trial at (step-fails t (lookingBack t) backward w i le lt a s la is-live u (only h) (judged (some h) e) (λ _. m .members))
+
+  -- whichever it is, these are its events
+  pub slot-tries : (plan : List ℕ) × (choice : ℕ) × (after : State backward)
+      × (step t (stepsOver t (lookingBack t) backward) (take i w) a (state backward (setWords w i s)) ≡ next (trial i a ∷ whole .checks) plan choice after)
+  slot-tries = rw is-trial at (step-tries t (lookingBack t) backward w i le lt a s la is-live)

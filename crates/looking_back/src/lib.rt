@@ -39,8 +39,9 @@ pub fn visit(
     while slot < size {
         match counts.trial() {
             Counted::Within(k) => counts = k,
-            Counted::Out(k) => return Visited::OutOfTrials(k),
+            Counted::Out(k) => return Visited::OutOfTrials(k, set, slot),
         }
+        let tried = counts.checks;
         let mut at = first;
         let failing = 'boats: loop {
             if end <= at {
@@ -55,15 +56,18 @@ pub fn visit(
                     counts = k;
                     break 'boats h;
                 }
-                Look::OutOfChecks(k) => return Visited::OutOfChecks(k),
+                Look::OutOfChecks(k) => {
+                    let made = 1 + (k.checks - tried);
+                    return Visited::OutOfChecks(k, set, slot, made);
+                }
             }
             at += 1;
         };
         if failing == i {
-            return Visited::Passed(slot, set, counts);
+            return Visited::Passed(counts, set, slot);
         }
         set = words::with_member(set, failing);
         slot += 1;
     }
-    Visited::Spent(set, counts)
+    Visited::Spent(counts, set)
 }

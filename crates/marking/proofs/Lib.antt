@@ -1,5 +1,3 @@
 pub mod Indices
-pub mod Marking
-pub mod Lowering
 pub mod Trials
 pub mod Visits

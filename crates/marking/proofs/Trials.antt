@@ -1,67 +1,58 @@
--- A trial of BM as what is to come: it leads on to the next slot where the mark tells that it fails, and looks back where it does not.
+-- The step of BM at a choice: on to the next one where the mark tells that it fails; where it does not, boats are looked at from b on.
 use mathlib.Core.Path.{_≡_, refl, ap, _∙_}
 use mathlib.Core.Bool.{Bool, true, false}
 use mathlib.Core.List.{List, [], _∷_, _++_}
 use mathlib.Core.Option.{Option, none, some}
-use Prim.Native.Nat.{ℕ, suc, pred, _≤_, _<_}
-use native.Mathlib.Nat.{le-refl}
+use Prim.Native.Nat.{ℕ, suc, _≤_, _<_}
 use lib.Dec.{ltb}
 use lib.ListN.{length, drop}
 use borrow.Author.Tests.{lt-ltb, le-ltb}
-use Rattle.problem.specs.Tables.{Tables, boats, size}
-use Rattle.events.specs.Events.{Event, trial, Search, _then_}
+use Rattle.problem.specs.Tables.{Tables, boats}
+use Rattle.events.specs.Events.{Event, trial}
 use Rattle.methods.specs.Choices.{choices}
-use Rattle.methods.specs.Machine.{Tried, searchFrom}
-use Rattle.methods.specs.BT.{lookBack}
-use Rattle.methods.specs.BM.{Marks, lastLookedAt, marked, isClear, markedTrial, bm}
-use Rattle.methods.proofs.StepsLeft.{search-next}
-use Rattle.methods.proofs.Runs.{step-fail, step-pass, search-spent}
-use Rattle.methods.proofs.Shown.{choices-size}
+use Rattle.methods.specs.Machine.{Tried, Step, next, step}
+use Rattle.methods.specs.BT.{Looked, lookBack}
+use Rattle.methods.specs.BM.{Marks, marked, markedTrial, isClear, lastLookedAt, bm}
+use Rattle.methods.proofs.Runs.{step-fail, step-pass}
 
--- what is to come after a trial's looks, by the boat that failed: slot a of boat i passes, or the next slot is due; τ has the mark, by the last boat looked at
-abbrev pub ended : Tables → (p : List ℕ) → (i a : ℕ) → (τ : ℕ → Marks) → Option ℕ → Search
-ended t p i a τ none = searchFrom t (bm t) (p ++ (a ∷ [])) 0 (τ (pred i))
-ended t p i a τ (some h) = searchFrom t (bm t) p (suc a) (τ h)
+-- where a trial of choice a leads, by the boat that failed: forward, or on to the next choice
+abbrev planAfter : (p : List ℕ) → (a : ℕ) → Option ℕ → List ℕ
+planAfter p a none = p ++ (a ∷ [])
+planAfter p a (some h) = p
 
-module _ (t : Tables) (p : List ℕ) (a : ℕ) (σ : Marks) (lt : length p < boats t) where
-  module _ (la : a < size (t .sizes) (length p)) where
-    lc : a < choices t (length p)
-    lc = rw choices-size la
+abbrev choiceAfter : (a : ℕ) → Option ℕ → ℕ
+choiceAfter a none = 0
+choiceAfter a (some h) = suc a
 
-    -- a trial by what it comes to
-    fails : (r : Tried Marks) → bm t .label σ p a ≡ r → r .passed ≡ false → searchFrom t (bm t) p a σ ≡ (trial (length p) a ∷ r .checks) then searchFrom t (bm t) p (suc a) (r .after)
+-- τ has the mark, by the last boat looked at
+abbrev pub led : (p : List ℕ) → (i a : ℕ) → List Event → (τ : ℕ → Marks) → Option ℕ → Step Marks
+led p i a es τ f = next es (planAfter p a f) (choiceAfter a f) (τ (lastLookedAt i f))
+
+module _ (t : Tables) (p : List ℕ) (a : ℕ) (σ : Marks) (lt : length p < boats t) (la : a < choices t (length p)) where
+  -- a trial by the boat that failed
+  tries : (es : List Event) (f : Option ℕ) (τ : Marks) → bm t .label σ p a ≡ record { checks = es; passed = isClear f; after = τ } →
+      step t (bm t) p a σ ≡ next (trial (length p) a ∷ es) (planAfter p a f) (choiceAfter a f) τ
+  unfolding bm
+  tries es none τ e =
+      step-pass t (bm t) p a σ lt la refl (ap (λ (x : Tried Marks). x .passed) e)
+      ∙ ap (λ (x : Tried Marks). next (trial (length p) a ∷ x .checks) (p ++ (a ∷ [])) 0 (x .after)) e
+  tries es (some h) τ e =
+      step-fail t (bm t) p a σ lt la refl (ap (λ (x : Tried Marks). x .passed) e)
+      ∙ ap (λ (x : Tried Marks). next (trial (length p) a ∷ x .checks) p (suc a) (x .after)) e
+
+  -- b is the first boat that is looked at
+  module _ (b : ℕ) (eb : σ .b (length p) ≡ b) where
+    abbrev looked : Looked
+    looked = lookBack t (length p) a b (drop b p)
+
+    label-is : (below : Bool) → ltb (σ .m (length p) a) b ≡ below → bm t .label σ p a ≡ markedTrial σ (length p) a looked below
     unfolding bm
-    fails r e f =
-        search-next t (bm t) p a σ (step-fail t (bm t) p a σ lt lc refl (ap (λ (x : Tried Marks). x .passed) e ∙ f))
-        ∙ ap (λ (x : Tried Marks). (trial (length p) a ∷ x .checks) then searchFrom t (bm t) p (suc a) (x .after)) e
+    label-is below e =
+        ap (λ (x : ℕ). markedTrial σ (length p) a (lookBack t (length p) a x (drop x p)) (ltb (σ .m (length p) a) x)) eb
+        ∙ ap (markedTrial σ (length p) a looked) e
 
-    passes : (r : Tried Marks) → bm t .label σ p a ≡ r → r .passed ≡ true → searchFrom t (bm t) p a σ ≡ (trial (length p) a ∷ r .checks) then searchFrom t (bm t) (p ++ (a ∷ [])) 0 (r .after)
-    unfolding bm
-    passes r e f =
-        search-next t (bm t) p a σ (step-pass t (bm t) p a σ lt lc refl (ap (λ (x : Tried Marks). x .passed) e ∙ f))
-        ∙ ap (λ (x : Tried Marks). (trial (length p) a ∷ x .checks) then searchFrom t (bm t) (p ++ (a ∷ [])) 0 (x .after)) e
+    pub step-below : σ .m (length p) a < b → step t (bm t) p a σ ≡ next (trial (length p) a ∷ []) p (suc a) σ
+    step-below l = tries [] (some (σ .m (length p) a)) σ (label-is true (lt-ltb _ _ l))
 
-    looks : (es : List Event) (f : Option ℕ) →
-        bm t .label σ p a ≡ record { checks = es; passed = isClear f; after = marked σ (length p) a (lastLookedAt (length p) f) } →
-        searchFrom t (bm t) p a σ ≡ (trial (length p) a ∷ []) then es then ended t p (length p) a (marked σ (length p) a) f
-    looks es none e = passes _ e refl
-    looks es (some h) e = fails _ e refl
-
-    -- b is the first boat that a look back looks at
-    module _ (b : ℕ) (eb : σ .b (length p) ≡ b) where
-      label-is : (below : Bool) → ltb (σ .m (length p) a) b ≡ below → bm t .label σ p a ≡ markedTrial σ (length p) a (lookBack t (length p) a b (drop b p)) below
-      unfolding bm
-      label-is below e =
-          ap (λ (x : ℕ). markedTrial σ (length p) a (lookBack t (length p) a x (drop x p)) (ltb (σ .m (length p) a) x)) eb
-          ∙ ap (markedTrial σ (length p) a (lookBack t (length p) a b (drop b p))) e
-
-      pub trial-below : σ .m (length p) a < b → searchFrom t (bm t) p a σ ≡ (trial (length p) a ∷ []) then searchFrom t (bm t) p (suc a) σ
-      trial-below l = fails _ (label-is true (lt-ltb _ _ l)) refl
-
-      pub trial-looks : b ≤ σ .m (length p) a →
-          searchFrom t (bm t) p a σ
-          ≡ (trial (length p) a ∷ []) then lookBack t (length p) a b (drop b p) .checks then ended t p (length p) a (marked σ (length p) a) (lookBack t (length p) a b (drop b p) .failing)
-      trial-looks l = let r = lookBack t (length p) a b (drop b p) in looks (r .checks) (r .failing) (label-is false (le-ltb _ _ l))
-
-  pub no-slot : size (t .sizes) (length p) ≤ a → searchFrom t (bm t) p a σ ≡ searchFrom t (bm t) p (size (t .sizes) (length p)) σ
-  no-slot l = search-spent t (bm t) p a (size (t .sizes) (length p)) σ lt (rw choices-size l) (rw choices-size (le-refl _))
+    pub step-looks : b ≤ σ .m (length p) a → step t (bm t) p a σ ≡ led p (length p) a (trial (length p) a ∷ looked .checks) (marked σ (length p) a) (looked .failing)
+    step-looks l = tries (looked .checks) (looked .failing) _ (label-is false (le-ltb _ _ l))

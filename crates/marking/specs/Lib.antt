@@ -1,3 +1,2 @@
-pub mod Marks
 pub mod Looks
-pub mod Kept
+pub mod Visits

@@ -1,14 +1,13 @@
 // BM: a trial looks back only as far as its mark and the boat's b do not already tell.
 ghost use mathlib.Core.Path.{_≡_};
-ghost use Prim.Native.Nat.{pred, _+_, _-_, _≤_, _<_};
+ghost use Prim.Native.Nat.{pred, _+_, _-_, _<_};
 ghost use lib.ListN.{length, getD};
 ghost use Rattle.problem.specs.Tables.{Tables, tables, bit};
-ghost use Rattle.methods.specs.BM.{lowered};
-ghost use Rattle.words.specs.Places.{used, lowAt, markAt, lowsEnd};
-ghost use Rattle.words.specs.Layout.{ChangedOnly, Zero};
+ghost use Rattle.words.specs.Places.{markAt};
+ghost use Rattle.words.specs.Layout.{ChangedOnly};
 ghost use Rattle.visits.specs.Visits.{Standing};
-ghost use Rattle.marking.specs.Marks.{marksOf, NeverRises, VisitsMarked};
-ghost use Rattle.marking.specs.Kept.{KeptMarked};
+ghost use Rattle.marking.specs.Visits.{VisitsMarked};
+ghost use Rattle.marks.specs.Kept.{KeptMarked};
 ghost use Rattle.marking.specs.Looks.{lookedAt};
 use events::Counted;
 use events::Counts;
@@ -61,10 +60,11 @@ pub fn visit(
     while slot < size {
         match counts.trial() {
             Counted::Within(k) => counts = k,
-            Counted::Out(k) => return Visited::OutOfTrials(k),
+            Counted::Out(k) => return Visited::OutOfTrials(k, 0, slot),
         }
         let mark = Words::MARKS + 64 * i + (slot as usize);
         if low <= work[mark] {
+            let tried = counts.checks;
             let mut h = low as usize;
             let failing = 'boats: loop {
                 if i <= h {
@@ -76,35 +76,21 @@ pub fn visit(
                         counts = k;
                         break 'boats h;
                     }
-                    Look::OutOfChecks(k) => return Visited::OutOfChecks(k),
+                    Look::OutOfChecks(k) => {
+                        // Of this step the trial is made, and the checks since.
+                        let made = 1 + (k.checks - tried);
+                        return Visited::OutOfChecks(k, 0, slot, made);
+                    }
                 }
                 h += 1;
             };
             if failing == i {
                 work[mark] = boat_before(i);
-                return Visited::Passed(slot, 0, counts);
+                return Visited::Passed(counts, 0, slot);
             }
             work[mark] = failing as u64;
         }
         slot += 1;
     }
-    Visited::Spent(0, counts)
-}
-
-// Going back from boat i to h, the boat before: b of i becomes h, and that of each later boat h where it was greater. As b never rises after i, the first that is not greater ends it.
-pub fn lower(n: usize, i: usize, h: usize, work: &mut [u64])
-    requires { ⌜ (i < n) × (n ≤ 64) × (h < 64) × (used ≤ length (now work)) ⌝ }
-    requires { ⌜ Zero (lowAt n) lowsEnd (now work) × NeverRises (now work) i ⌝ }
-    ensures { λ _. ⌜ marksOf (now (work .exit)) ≡ lowered (marksOf (now (work .entry))) i h ⌝ }
-    ensures { λ _. ⌜ ChangedOnly (lowAt i) (lowAt n) (now (work .entry)) (now (work .exit)) ⌝ }
-{
-    work[Words::LOWS + i] = h as u64;
-    let mut j = i + 1;
-    while j < n {
-        if work[Words::LOWS + j] <= h as u64 {
-            return;
-        }
-        work[Words::LOWS + j] = h as u64;
-        j += 1;
-    }
+    Visited::Spent(counts, 0)
 }

@@ -1,6 +1,7 @@
 pub mod StepsLeft
 pub mod Runs
 pub mod Inside
+pub mod GivenUp
 pub mod Standing
 pub mod Sound
 pub mod Steps
@@ -14,6 +15,7 @@ pub mod Looking
 pub mod Backward
 pub mod Marks
 pub mod Marked
+pub mod MarkRanges
 pub mod Ahead
 pub mod AheadMembers
 pub mod Same

@@ -154,22 +154,6 @@ module _ (t : Tables) {S : Type 0} (M : Steps S) where
     pub view : View p a σ
     view = view-sea _ refl
 
-  -- ---- no choice is left: which one is next does not matter
-  leave-same : (p : List ℕ) (a b : ℕ) (x : Left S) → leave p a x ≡ leave p b x
-  unfolding leave backTo
-  leave-same p a b nowhere = refl
-  leave-same p a b (back h σ) = by (ltb h (length p))
-    where
-      by : (placed : Bool) → backTo p a h σ placed ≡ backTo p b h σ placed
-      by true = refl
-      by false = refl
-
-  pub search-spent : (p : List ℕ) (a b : ℕ) (σ : S) → length p < boats t → choices t (length p) ≤ a → choices t (length p) ≤ b → searchFrom t M p a σ ≡ searchFrom t M p b σ
-  search-spent p a b σ lp la lb =
-      search-step t M p a σ
-      ∙ ap (onward (searchFrom t M)) (at-left p a σ lp la _ refl ∙ leave-same p a b (M .unlabel σ p) ∙ sym (at-left p b σ lp lb _ refl))
-      ∙ sym (search-step t M p b σ)
-
   -- ---- what a run that is there does next
   pub at-next : {p : List ℕ} {a : ℕ} {σ : S} {es : List Event} {r : Ending} {es₁ : List Event} {p₁ : List ℕ} {a₁ : ℕ} {σ₁ : S} →
       Runs p a σ es r → step t M p a σ ≡ next es₁ p₁ a₁ σ₁ → (fs : List Event) × (es ≡ es₁ ++ fs) × Runs p₁ a₁ σ₁ fs r

@@ -5,12 +5,12 @@ use mathlib.Core.List.{List, [], _∷_, _++_}
 use Prim.Native.Nat.{ℕ, suc, _≤_, _<_}
 use borrow.Author.Tests.{ltb-true, ltb-false}
 use lib.Dec.{ltb}
-use lib.ListN.{length, take}
+use lib.ListN.{length, take, drop}
 use Rattle.problem.specs.Tables.{Tables, boats}
-use Rattle.events.specs.Events.{Event, Ending}
+use Rattle.events.specs.Events.{Event, Ending, Search, _then_}
 use Rattle.methods.specs.Choices.{choices}
-use Rattle.methods.specs.Machine.{Left, nowhere, back, Steps, Step, stop, next, tried, backTo, leave, atChoice, atBoat, atPlan, step, search}
-use Rattle.methods.proofs.Runs.{at, Runs, ends, goes, readied, labelled, runs, from-runs}
+use Rattle.methods.specs.Machine.{Left, nowhere, back, Steps, Step, stop, next, tried, backTo, leave, atChoice, atBoat, atPlan, step, onward, searchFrom, unmade, searchInside}
+use Rattle.methods.proofs.Runs.{at, Runs, ends, goes, readied, labelled, runs-from, from-runs}
 
 -- what the two remember is related by R, at a plan so far and the next choice
 module _ {S S′ : Type 0} (R : List ℕ → ℕ → S → S′ → Type 0) where
@@ -103,9 +103,19 @@ module _ (t : Tables) {S S′ : Type 0} (M : Steps S) (N : Steps S′) (R : List
             let z : step t N p a τ ≡ next es p′ a′ τ′ = cc in
             goes z (rec τ′ (w .3))
 
-    -- the searches are the same
-    pub same-search : R [] 0 (M .start) (N .start) → search t M ≡ search t N
-    unfolding search
-    same-search k =
-        let w = from-runs t N (same-runs k (runs t M)) in
+    -- the searches are the same: from any place between two choices,
+    pub same-from : {p : List ℕ} {a : ℕ} {σ : S} {τ : S′} → R p a σ τ → searchFrom t M p a σ ≡ searchFrom t N p a τ
+    same-from {p} {a} {σ} {τ} k =
+        let w = from-runs t N (same-runs k (runs-from t M p a σ)) in
         λ i. record { events = sym (w .0) i; ending = sym (w .1) i }
+
+    -- and from any place inside a trial
+    pub same-inside : (made : ℕ) {p : List ℕ} {a : ℕ} {σ : S} {τ : S′} → R p a σ τ → searchInside t M made p a σ ≡ searchInside t N made p a τ
+    unfolding searchInside unmade onward
+    same-inside made {p} {a} {σ} {τ} k = by (step t M p a σ) (step t N p a τ) (same-step p a σ τ k)
+      where
+        by : (x : Step S) (y : Step S′) → SameStep R x y → onward (searchFrom t M) (unmade made x) ≡ onward (searchFrom t N) (unmade made y)
+        by (stop r) (stop s) e = ap (λ (z : Ending). record { events = []; ending = z }) e
+        by (stop r) (next fs q b υ) e = absurd e
+        by (next es q b υ) (stop s) e = absurd e
+        by (next es q b υ) (next fs q′ b′ υ′) e = rw (← (e .0), ← (e .1), ← (e .2)) (ap (λ (z : Search). drop made es then z) (same-from (e .3)))

@@ -1,4 +1,4 @@
--- Two forward moves that do the same, whatever each remembers: stepping over them makes the same search, and so does jumping.
+-- Two forward moves that do the same, whatever each remembers: stepping over them makes the same search from any place, and so does jumping.
 use mathlib.Core.Path.{_≡_, refl, ap, ap₂, subst, fun-ext}
 use mathlib.Core.Bool.{true, false}
 use mathlib.Core.List.{List, [], _∷_, _++_}
@@ -8,10 +8,10 @@ use native.Mathlib.Omega.{arith}
 use lib.ListN.{length, take}
 use Rattle.problem.specs.Tables.{Tables, boats}
 use Rattle.methods.specs.Choices.{choices}
-use Rattle.methods.specs.Machine.{search}
+use Rattle.methods.specs.Machine.{searchInside}
 use Rattle.methods.specs.Moves.{Boats, Verdict, pass, fail, Forward, passes, remembered, oneBack, stepping}
 use Rattle.methods.specs.CBJ.{Sets, Jumping, blamed, deepest, handedDown, jump, toBlame, jumping}
-use Rattle.methods.proofs.Same.{SameWay, both-nowhere, both-back, Alike, same-search}
+use Rattle.methods.proofs.Same.{SameWay, both-nowhere, both-back, Alike, same-inside}
 
 -- both pass, and P holds of what is then remembered; or both fail, and the same boats are to blame
 module _ {S S′ : Type 0} (P : S → S′ → Type 0) where
@@ -45,7 +45,6 @@ WithSets K p a σ τ = K p (σ .rest) (τ .rest) × (σ .sets ≡ τ .sets)
 module _ (t : Tables) {S S′ : Type 0} (F : Forward S) (G : Forward S′) (K : List ℕ → S → S′ → Type 0) where
   -- what the two remember at a plan so far is related by K: then they do the same, and K is kept
   pub record Twins : Type 0 where
-    pub begin : K [] (F .start) (G .start)
     pub same-live : (p : List ℕ) (a : ℕ) (σ : S) (τ : S′) → K p σ τ → length p < boats t → a < choices t (length p) → F .live σ p a ≡ G .live τ p a
     pub same-checks : (p : List ℕ) (a : ℕ) (σ : S) (τ : S′) → K p σ τ → length p < boats t → a < choices t (length p) → F .live σ p a ≡ true →
         F .trial σ p a .checks ≡ G .trial τ p a .checks
@@ -72,8 +71,8 @@ module _ (t : Tables) {S S′ : Type 0} (F : Forward S) (G : Forward S′) (K : 
         by p σ τ k lp (suc h) = both-back (λ l. W .keep-back p h σ τ k lp l)
 
     -- stepping over the one is stepping over the other
-    pub same-stepping : search t (stepping F) ≡ search t (stepping G)
-    same-stepping = same-search t (stepping F) (stepping G) (λ p a σ τ. K p σ τ) stepping-alike (W .begin)
+    pub same-stepping : (made : ℕ) (p : List ℕ) (a : ℕ) (σ : S) (τ : S′) → K p σ τ → searchInside t (stepping F) made p a σ ≡ searchInside t (stepping G) made p a τ
+    same-stepping made p a σ τ k = same-inside t (stepping F) (stepping G) (λ p a σ τ. K p σ τ) stepping-alike made k
 
     -- ---- with conflict sets
     same-toBlame : (p : List ℕ) (a : ℕ) (σ : Jumping S) (τ : Jumping S′) → WithSets K p a σ τ → length p < boats t → toBlame F σ p ≡ toBlame G τ p
@@ -107,5 +106,6 @@ module _ (t : Tables) {S S′ : Type 0} (F : Forward S) (G : Forward S′) (K : 
         }
 
     -- jumping over the one is jumping over the other
-    pub same-jumping : search t (jumping t F) ≡ search t (jumping t G)
-    same-jumping = same-search t (jumping t F) (jumping t G) (WithSets K) jumping-alike (W .begin, refl)
+    pub same-jumping : (made : ℕ) (p : List ℕ) (a : ℕ) (σ : Jumping S) (τ : Jumping S′) → WithSets K p a σ τ →
+        searchInside t (jumping t F) made p a σ ≡ searchInside t (jumping t G) made p a τ
+    same-jumping made p a σ τ k = same-inside t (jumping t F) (jumping t G) (WithSets K) jumping-alike made k

@@ -17,7 +17,7 @@ use Rattle.methods.specs.Choices.{choices, mayStand}
 use Rattle.methods.specs.Moves.{some?}
 use Rattle.methods.specs.FC.{Strikes, noStrikes, isLive, strikers, slotChecks, choiceStays, sweep, struck, putBackFrom}
 use Rattle.methods.proofs.Looking.{may-unlisted, refuser-some}
-use Rattle.methods.specs.ByPlan.{refuser, isNone, isFirst, isOpen, blamersOf, openChecks, openStays, openSweep}
+use Rattle.methods.specs.ByPlan.{Struck, refuser, isNone, isFirst, isOpen, blamersOf, openChecks, openStays, openSweep}
 use Rattle.methods.proofs.Ahead.{some?-intro, some?-same}
 
 eqb-sym : (m n : ℕ) → eqb m n ≡ eqb n m
@@ -92,18 +92,15 @@ module _ (t : Tables) (j b : ℕ) where
       by true rec = let z : k + suc (length xs) ≡ suc k + length xs = omega arith in rw z rec
       by false rec = simp (and-false, or-false)
 
--- what the strikes know: g has struck b of j where g is the first, of the boats placed before j, that refuses b
+-- the strikes know the plan so far
 module _ (t : Tables) where
-  abbrev pub Struck : List ℕ → Strikes → Type 0
-  Struck p s = (g j b : ℕ) → j < boats t → b < choices t j → s g j b ≡ isFirst g (refuser t j b 0 (take j p))
-
   -- at the start
-  pub struck-start : Struck [] noStrikes
+  pub struck-start : Struck t [] noStrikes
   unfolding refuser
   struck-start g j b lj lb = rw (take-nil {A = ℕ} j)
 
   -- a choice is live where none of the boats placed before refuses it
-  live-is : (p : List ℕ) (s : Strikes) → Struck p s → (j b : ℕ) → j < boats t → b < choices t j → isLive t s j b ≡ isOpen t (take j p) j b
+  live-is : (p : List ℕ) (s : Strikes) → Struck t p s → (j b : ℕ) → j < boats t → b < choices t j → isLive t s j b ≡ isOpen t (take j p) j b
   unfolding isLive isOpen
   live-is p s K j b lj lb =
       rw (some?-same (boats t) (λ g. s g j b) (λ g. isFirst g (refuser t j b 0 (take j p))) (λ g l. K g j b lj lb))
@@ -113,11 +110,11 @@ module _ (t : Tables) where
       below h e = let w = refuser-some t j b 0 (take j p) h e in omega (arith, simp length-take at (w .2))
 
   -- a choice of a boat that is not placed is live where no placed boat refuses it
-  pub live-same : (p : List ℕ) (s : Strikes) → Struck p s → (j b : ℕ) → length p ≤ j → j < boats t → b < choices t j → isLive t s j b ≡ isOpen t p j b
+  pub live-same : (p : List ℕ) (s : Strikes) → Struck t p s → (j b : ℕ) → length p ≤ j → j < boats t → b < choices t j → isLive t s j b ≡ isOpen t p j b
   live-same p s K j b l lj lb = live-is p s K j b lj lb ∙ rw (take-all j p l)
 
   -- a trial that passes
-  pub struck-pass : (p : List ℕ) (s : Strikes) (a : ℕ) → Struck p s → Struck (p ++ (a ∷ [])) (struck t s (length p) a)
+  pub struck-pass : (p : List ℕ) (s : Strikes) (a : ℕ) → Struck t p s → Struck t (p ++ (a ∷ [])) (struck t s (length p) a)
   unfolding struck isOpen
   struck-pass p s a K g j b lj lb = by (decLt (length p) j)
     where
@@ -145,13 +142,13 @@ module _ (t : Tables) where
           rw (le-ltb (length p) j le, take-append-le j p (a ∷ []) le) (off (s g j b) (eqb g (length p)) _ _ _ ∙ K g j b lj lb)
 
   -- going back
-  pub struck-back : (p : List ℕ) (s : Strikes) (h : ℕ) → Struck p s → Struck (take h p) (putBackFrom h s)
+  pub struck-back : (p : List ℕ) (s : Strikes) (h : ℕ) → Struck t p s → Struck t (take h p) (putBackFrom h s)
   unfolding putBackFrom
   struck-back p s h K g j b lj lb =
       rw (K g j b lj lb, take-swap j h p) (sym (rw (zero-add h) at (first-take t j b g h 0 (take j p))))
 
   -- ---- under what the strikes know, what forward checking does is what looking ahead by the plan does
-  module _ (p : List ℕ) (s : Strikes) (K : Struck p s) where
+  module _ (p : List ℕ) (s : Strikes) (K : Struck t p s) where
     -- the same boats are to blame
     pub strikers-same : (j : ℕ) → length p ≤ j → j < boats t → strikers t s j ≡ blamersOf t p j
     unfolding strikers blamersOf

@@ -32,7 +32,7 @@ use Rattle.methods.proofs.Marked.{Marked, marked-start, marks-justified
 use Rattle.methods.specs.ByPlan.{aheadByPlan}
 use Rattle.methods.proofs.Ahead.{ahead-honest}
 use Rattle.methods.proofs.AheadMembers.{StruckByPlaced, ahead-placed}
-use Rattle.methods.proofs.AheadSame.{fc-same, fccbj-same}
+use Rattle.methods.proofs.AheadSame.{fc-searches, fccbj-searches}
 use Rattle.methods.proofs.Shown.{shown-is, none-no-plan, foremost-first}
 
 -- ---- each method's search in choices, and what it means there
@@ -57,10 +57,10 @@ chosen-means Bt t = step-means t (lookingBack t) (back-honest t) (runs t (steppi
 chosen-means Cbj t = jump-means t (lookingBack t) (back-honest t) (runs t (jumping t (lookingBack t)))
 chosen-means Bm t = sound-start t (lookingBack t) (back-honest t) (bm t) (Marked t) (marks-justified t) noMarks (marked-start t) (runs t (bm t))
 chosen-means Fc t =
-    subst (λ (s : Search). Meaning t (s .ending)) (sym (fc-same t))
+    subst (λ (s : Search). Meaning t (s .ending)) (sym (fc-searches t))
     (step-means t (aheadByPlan t) (ahead-honest t) (runs t (stepping (aheadByPlan t))))
 chosen-means FcCbj t =
-    subst (λ (s : Search). Meaning t (s .ending)) (sym (fccbj-same t))
+    subst (λ (s : Search). Meaning t (s .ending)) (sym (fccbj-searches t))
     (jump-means t (aheadByPlan t) (ahead-honest t) (runs t (jumping t (aheadByPlan t))))
 
 meaning-means : (t : Tables) → Sane t → (r : Ending) → Meaning t r → Means t r
@@ -89,7 +89,7 @@ no-more bmForBt t =
     (record { none-wait = marks-none-wait t; few-trials = marks-few-trials t; few-checks = marks-few-checks t })
     (runs t (bm t)) (record { fit = fit-start t; behind = behind-start t; inv = marked-start t }) (runs t (stepping (lookingBack t)))
 no-more fcCbjForFc t =
-    rw (fc-same t, fccbj-same t)
+    rw (fc-searches t, fccbj-searches t)
     (jump-cheaper t (aheadByPlan t) (ahead-honest t) (runs t (jumping t (aheadByPlan t))) (runs t (stepping (aheadByPlan t))))
 
 -- whatever allowances let the plain method decide let the other decide, with the same answer and plan and no more checks or trials

@@ -1,16 +1,17 @@
 -- Looking ahead by the plan so far alone: forward checking that remembers nothing, and takes the steps of FC.antt. (The inner contracts cite it: the
 -- code keeps no strikes. That both make the same events is proofs/AheadSame.antt, and no promise speaks of it.)
+use mathlib.Core.Path.{_≡_}
 use mathlib.Core.Bool.{Bool, true, false, cond, _&&_}
 use mathlib.Core.List.{List, [], _∷_}
 use mathlib.Core.Option.{Option, none, some}
-use Prim.Native.Nat.{ℕ, zero, suc, _-_}
+use Prim.Native.Nat.{ℕ, zero, suc, _-_, _<_}
 use lib.Dec.{eqb}
-use lib.ListN.{length}
+use lib.ListN.{length, take}
 use Rattle.problem.specs.Tables.{Tables, boats, isListed}
 use Rattle.events.specs.Events.{Event, check}
 use Rattle.methods.specs.Choices.{choices, mayStand}
 use Rattle.methods.specs.Moves.{Boats, some?, Verdict, pass, fail, Forward}
-use Rattle.methods.specs.FC.{eachLive, Swept, sweepOver}
+use Rattle.methods.specs.FC.{Strikes, eachLive, Swept, sweepOver}
 
 module _ (t : Tables) (i a : ℕ) where
   -- of boats h, h + 1, .. with the choices xs, the first that does not allow choice a of boat i
@@ -69,3 +70,8 @@ aheadByPlan t =
       blamers = λ σ p. blamersOf t p (length p);
       putBack = λ h σ. σ;
     }
+
+-- ---- the strikes of FC.antt are those that the plan so far makes: boat g has struck choice b of j where g is the first, of the boats placed before j, that
+-- refuses it
+abbrev pub Struck : Tables → (plan : List ℕ) → Strikes → Type 0
+Struck t p s = (g j b : ℕ) → j < boats t → b < choices t j → s g j b ≡ isFirst g (refuser t j b 0 (take j p))

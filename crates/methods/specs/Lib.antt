@@ -1,6 +1,7 @@
 pub mod Choices
 pub mod Machine
 pub mod Reached
+pub mod GivenUp
 pub mod Moves
 pub mod BT
 pub mod CBJ

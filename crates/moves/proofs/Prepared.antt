@@ -1,5 +1,5 @@
 -- The words as a search begins with them: what preparing finds and leaves.
-use mathlib.Core.Path.{_≡_, refl, sym, _∙_, fun-ext}
+use mathlib.Core.Path.{_≡_, refl, _∙_, fun-ext}
 use mathlib.Core.Bool.{Bool, true, false, cond, _&&_}
 use mathlib.Core.List.{List, []}
 use mathlib.Core.Logic.{inl, inr}
@@ -10,39 +10,42 @@ use lib.Dec.{ltb, eqb}
 use lib.Pow.{pow-pos}
 use borrow.Author.Tests.{lt-ltb, le-ltb}
 use Rattle.problem.specs.Tables.{Tables, boats, bit}
+use Rattle.problem.specs.Sane.{Sane}
 use Rattle.methods.specs.Moves.{Forward}
 use Rattle.methods.specs.BT.{lookingBack}
 use Rattle.methods.specs.BM.{noMarks, bm}
 use Rattle.methods.specs.ByPlan.{aheadByPlan}
-use Rattle.words.specs.Places.{starts, index, marks, used, lowAt, markAt}
-use Rattle.words.specs.Layout.{word, Zero, ChangedOnly, Placed, Indexed, Firsts, liveAt}
+use Rattle.words.specs.Places.{starts, index, marks, blames, used, lowAt, markAt, allAt, blameAt}
+use Rattle.words.specs.Layout.{word, Zero, ChangedOnly, Placed, Indexed, Firsts, Chained}
 use Rattle.words.specs.Links.{Linked}
 use Rattle.words.specs.Sets.{membersOf, setWords, SetsBelow}
 use Rattle.words.proofs.Bits.{bit-zero}
 use Rattle.words.proofs.ChangedOnly.{only-trans, only-widen}
-use Rattle.words.proofs.Frames.{same-before, firsts-stay}
+use Rattle.words.proofs.Frames.{same-before, firsts-stay, chained-stays}
+use Rattle.words.proofs.Lefts.{left-none}
 use Rattle.visits.specs.declared.Backward.{Backward}
 use Rattle.visits.specs.declared.Backward.the-variants.{OneBack, BySets}
 use Rattle.visits.specs.Visits.{stepsOver, state}
-use Rattle.marking.specs.Marks.{marksOf}
-use Rattle.live_words.specs.Lives.{Lives}
-use Rattle.live_words.proofs.Live.{lives-stay}
+use Rattle.marks.specs.Marks.{marksOf}
+use Rattle.live_words.specs.Lives.{Lives, Blames}
+use Rattle.live_words.specs.Kept.{BlamesKept}
+use Rattle.live_words.proofs.Losses.{lost-none}
 use Rattle.moves.specs.declared.Moves.the-variants.{LookingBack, Marking, LookingAhead}
 use Rattle.moves.specs.Memory.{SetsKept}
 use Rattle.moves.specs.Prepared.{PreparedAhead, Prepared}
 
--- ---- for looking ahead: u has the index, v level 0 too, and w′ its copy as level 1
-pub prepared-ahead : (t : Tables) (w u v w′ : List ℕ) → boats t ≤ 64 → Firsts t u → ChangedOnly 192 384 w u → Lives t v [] 0 → ChangedOnly 4096 4160 u v →
-    ((j : ℕ) → 0 < j → j < boats t → liveAt w′ 1 j ≡ liveAt v 0 j) → ChangedOnly 4160 8192 v w′ → PreparedAhead t w w′
-prepared-ahead t w u v w′ few f o l p c q =
+-- ---- for looking ahead: u has each boat's pairs, v where the live words stand too, and w′ all slots
+pub prepared-ahead : (t : Tables) (w u v w′ : List ℕ) → Sane t → Firsts t u → ChangedOnly 192 384 w u → Chained t v → ChangedOnly 448 4096 u v → Lives t w′ [] 0 →
+    ChangedOnly 4032 4096 v w′ → PreparedAhead t w w′
+prepared-ahead t w u v w′ s f o c p l q =
     record {
-      firsts = firsts-stay t v w′ few (same-before q (omega arith)) (firsts-stay t u v few (same-before p (omega arith)) f);
-      lives = lives-stay t v w′ few [] 0 (same-before q (omega arith)) l;
-      copied = λ j lo hi e. c j lo hi ∙ sym (q .others (4096 + j) (inl (omega arith)));
       only = only-trans (only-widen (omega arith) (omega arith) o) (only-trans (only-widen (omega arith) (omega arith) p) (only-widen (omega arith) (omega arith) q));
+      firsts = firsts-stay t v w′ (s .fewBoats) (same-before q (omega arith)) (firsts-stay t u v (s .fewBoats) (same-before p (omega arith)) f);
+      chained = chained-stays t v w′ s (same-before q (omega arith)) c;
+      lives = l;
     }
 
--- ---- words that are 0 hold no set and no mark
+-- ---- words that are 0 hold no set and no mark, and blame nobody
 no-sets : (w : List ℕ) → word w 64 ≡ 0 → membersOf (setWords w 0 (word w 64)) ≡ (λ k j. false)
 no-sets w e = fun-ext (λ k. fun-ext (λ j. rw (e, le-ltb k 0 (omega arith)) (by (eqb k 0) j)))
   where
@@ -67,6 +70,9 @@ none-placed t w h l = absurd (omega arith)
 
 none-below : (w : List ℕ) → word w 64 ≡ 0 → SetsBelow w 0
 none-below w e k l = let z : k ≡ 0 = omega arith in rw (z, e) (pow-pos 0)
+
+none-blamed : (t : Tables) (w : List ℕ) → boats t ≤ 64 → Zero blames used w → Blames t w 0
+none-blamed t w few e k j l lj = let z : k ≡ 0 = omega arith in rw (z, left-none (t .pairs) j, e (blameAt (allAt j)) (omega arith) (omega arith)) (lost-none t w j)
 
 -- ---- over a forward move that remembers nothing, from words that are all 0
 module _ (backward : Backward) {w w′ : List ℕ} (zero : Zero 0 used w) (o : ChangedOnly starts used w w′) where
@@ -95,13 +101,20 @@ module _ (backward : Backward) {w w′ : List ℕ} (zero : Zero 0 used w) (o : C
         only = only-widen (omega arith) (omega arith) o;
       }
 
-  pub prepared-looking-ahead : (t : Tables) → PreparedAhead t w w′ → Prepared (LookingAhead backward) t w w′
-  prepared-looking-ahead t p =
+  pub prepared-looking-ahead : (t : Tables) → boats t ≤ 64 → PreparedAhead t w w′ → Prepared (LookingAhead backward) t w w′
+  prepared-looking-ahead t few p =
       record {
-        kept = record { words = record { firsts = p .firsts; placed = none-placed t w′; lives = p .lives; copied = λ l. p .copied }; sets = no-sets-kept };
+        kept = record {
+          words = record { firsts = p .firsts; chained = p .chained; placed = none-placed t w′; lives = p .lives; blames = no-blames backward };
+          sets = no-sets-kept;
+        };
         fresh = fresh-sets t (aheadByPlan t);
         only = only-widen (omega arith) (omega arith) o;
       }
+    where
+      no-blames : (x : Backward) → BlamesKept x t w′ 0
+      no-blames OneBack = tt
+      no-blames BySets = none-blamed t w′ few (λ k lo hi. p .only .others k (inr (omega arith)) ∙ zero k (omega arith) hi)
 
 -- ---- for marking
 module _ (t : Tables) {w w′ : List ℕ} (zero : Zero 0 used w) (found : Indexed t w′) (o : ChangedOnly index marks w w′) where

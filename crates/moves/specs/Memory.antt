@@ -17,8 +17,8 @@ use Rattle.visits.specs.declared.Backward.{Backward}
 use Rattle.visits.specs.declared.Backward.the-variants.{OneBack, BySets}
 use Rattle.visits.specs.Visits.{State, stepsOver, state}
 use Rattle.looking_back.specs.Kept.{KeptBack}
-use Rattle.marking.specs.Marks.{marksOf}
-use Rattle.marking.specs.Kept.{KeptMarked}
+use Rattle.marks.specs.Marks.{marksOf}
+use Rattle.marks.specs.Kept.{KeptMarked}
 use Rattle.live_words.specs.Kept.{KeptAhead}
 use Rattle.moves.specs.declared.Moves.{Moves}
 use Rattle.moves.specs.declared.Moves.the-variants.{LookingBack, Marking, LookingAhead}
@@ -65,4 +65,4 @@ pub record WithSets (backward : Backward) (K : Type 0) (w : List ℕ) (i : ℕ) 
 abbrev pub Kept : Moves → Tables → List ℕ → (i : ℕ) → Type 0
 Kept (LookingBack backward) t w i = WithSets backward (KeptBack t w i) w i
 Kept Marking t w i = KeptMarked t w i
-Kept (LookingAhead backward) t w i = WithSets backward (KeptAhead t w i) w i
+Kept (LookingAhead backward) t w i = WithSets backward (KeptAhead backward t w i) w i

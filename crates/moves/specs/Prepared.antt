@@ -3,17 +3,17 @@ use mathlib.Core.Path.{_≡_}
 use mathlib.Core.List.{List, []}
 use Prim.Native.Nat.{ℕ}
 use Rattle.problem.specs.Tables.{Tables}
-use Rattle.words.specs.Places.{starts, used}
-use Rattle.words.specs.Layout.{ChangedOnly, Firsts}
-use Rattle.live_words.specs.Lives.{Lives, Copied}
+use Rattle.words.specs.Places.{starts, lives, used}
+use Rattle.words.specs.Layout.{ChangedOnly, Firsts, Chained}
+use Rattle.live_words.specs.Lives.{Lives}
 use Rattle.moves.specs.declared.Moves.{Moves}
 use Rattle.moves.specs.Memory.{stepsBy, memory, Kept}
 
 pub record PreparedAhead (t : Tables) (w w′ : List ℕ) : Type 0 where
+  pub only : ChangedOnly starts lives w w′
   pub firsts : Firsts t w′
+  pub chained : Chained t w′
   pub lives : Lives t w′ [] 0
-  pub copied : Copied t w′ 0
-  pub only : ChangedOnly starts used w w′
 
 pub record Prepared (moves : Moves) (t : Tables) (w w′ : List ℕ) : Type 0 where
   pub kept : Kept moves t w′ 0

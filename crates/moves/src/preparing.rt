@@ -9,7 +9,7 @@ ghost use Rattle.words.specs.Layout.{Zero};
 ghost use Rattle.moves.specs.Prepared.{Prepared, PreparedAhead};
 use crate::Moves;
 
-// What looking ahead goes by: each boat's pairs, and all slots live.
+// What looking ahead goes by: each boat's pairs, where the live words stand, and all slots live.
 fn prepare_ahead(sizes: &[u8], pairs: &[u8], rows: &[u64], work: &mut [u64])
     ghost { Tables }
     requires { λ t. ⌜ tables (now sizes) (now pairs) (now rows) ≡ t ⌝ }
@@ -18,8 +18,8 @@ fn prepare_ahead(sizes: &[u8], pairs: &[u8], rows: &[u64], work: &mut [u64])
     ensures { λ t _. ⌜ PreparedAhead t (now (work .entry)) (now (work .exit)) ⌝ }
 {
     index::index_ahead(sizes, pairs, rows, work);
-    live_words::fill_level(sizes, pairs, rows, work);
-    live_words::copy_level(sizes.len(), 0, work);
+    index::chain_ahead(sizes, pairs, rows, work);
+    live_words::fill_slots(sizes, pairs, rows, work);
 }
 
 // What the forward move looks up, so that it searches for no pair.

@@ -4,12 +4,13 @@ ghost use mathlib.Core.List.{_++_};
 ghost use Prim.Native.Nat.{ℕ, _≤_, _<_};
 ghost use lib.ListN.{length, take, drop};
 ghost use Rattle.problem.specs.Tables.{Tables, tables};
-ghost use Rattle.problem.specs.declared.Answer.the-variants.{Solved};
 ghost use Rattle.tables.specs.Examination.{Fine};
 ghost use Rattle.words.specs.Layout.{word};
-ghost use Rattle.walk.specs.Walks.{decisionOf};
+ghost use Rattle.events.specs.declared.Counts.{Counts};
+ghost use Rattle.walk.specs.declared.Ended.the-variants.{Solved};
+ghost use Rattle.walk.specs.Walks.{decisionThen};
 ghost use Rattle.planner.specs.Runs.{written, runResult, resultOf};
-ghost use Rattle.planner.specs.Lent.{refusedReply, lentResult};
+ghost use Rattle.planner.specs.Lent.{refusedReply, replyOf, lentResult};
 use events::Counts;
 use problem::Answer;
 use problem::Method;
@@ -18,6 +19,7 @@ use problem::Problem;
 use problem::Refusal;
 use problem::Reply;
 use tables::Examined;
+use walk::Ended;
 
 fn refused(why: Refusal) -> Reply
     ensures { λ r. ⌜ r ≡ refusedReply why ⌝ }
@@ -43,16 +45,36 @@ fn copy_plan(n: usize, work: &[u64], plan: &mut [u8])
 }
 
 // Only a solved run writes the plan.
-fn write_plan(answer: Answer, n: usize, work: &[u64], plan: &mut [u8])
+fn write_plan(ended: Ended, n: usize, work: &[u64], plan: &mut [u8])
     requires { ⌜ (n ≤ length (now work)) × (n ≤ length (now plan)) ⌝ }
-    requires { ⌜ (answer ≡ Solved → (k : ℕ) → k < n → word (now work) k < 256) ⌝ }
-    ensures { λ _. ⌜ now (plan .exit) ≡ written (decisionOf answer (take n (now (work .entry)))) ++ drop (length (written (decisionOf answer (take n (now (work .entry)))))) (now (plan .entry)) ⌝ }
+    requires { ⌜ ((c : Counts) → ended ≡ Solved c → (k : ℕ) → k < n → word (now work) k < 256) ⌝ }
+    ensures { λ _. ⌜ now (plan .exit) ≡ written (decisionThen ended (take n (now (work .entry)))) ++ drop (length (written (decisionThen ended (take n (now (work .entry)))))) (now (plan .entry)) ⌝ }
 {
-    match answer {
-        Answer::Solved => copy_plan(n, work, plan),
-        Answer::NoPlan => {}
-        Answer::Undecided(_) => {}
-        Answer::Refused(_) => {}
+    match ended {
+        Ended::Solved(_) => copy_plan(n, work, plan),
+        Ended::NoPlan(_) => {}
+        Ended::Undecided(_, _, _) => {}
+    }
+}
+
+fn reply(answer: Answer, counts: Counts) -> Reply
+    ensures { λ r. ⌜ r ≡ record { answer = answer; checks = counts .checks; trials = counts .trials } ⌝ }
+{
+    Reply {
+        answer,
+        checks: counts.checks,
+        trials: counts.trials,
+    }
+}
+
+// Where an undecided run stands is not told.
+fn reply_of(ended: Ended) -> Reply
+    ensures { λ r. ⌜ r ≡ replyOf ended ⌝ }
+{
+    match ended {
+        Ended::Solved(k) => reply(Answer::Solved, k),
+        Ended::NoPlan(k) => reply(Answer::NoPlan, k),
+        Ended::Undecided(k, which, _) => reply(Answer::Undecided(which), k),
     }
 }
 
@@ -80,11 +102,10 @@ fn run_fine(
         return refused(Refusal::WorkMemory);
     }
     let moves = moves::moves_of(method);
-    let found = walk::search(moves, sizes, pairs, rows, Counts::new(checks, trials), work);
-    let answer = found.answer;
-    write_plan(answer, n, work, plan);
+    let ended = walk::search(moves, sizes, pairs, rows, Counts::new(checks, trials), work);
+    write_plan(ended, n, work, plan);
     words::clear(work);
-    found
+    reply_of(ended)
 }
 
 // Runs a method by its number. Only a run that is not refused changes what is lent: a solved one writes the plan, and each leaves the first 8,192 words 0.

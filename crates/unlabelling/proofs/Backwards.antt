@@ -1,38 +1,36 @@
 -- The way back: what is known of the words at a boat is known at each boat before it; the moves that go back by one boat.
 use mathlib.Core.Path.{_≡_, refl, sym, ap, _∙_, subst}
-use mathlib.Core.Bool.{Bool, cond, _&&_, and-true}
+use mathlib.Core.Bool.{cond}
 use mathlib.Core.List.{List}
 use mathlib.Core.Logic.{inr}
-use Prim.Native.Nat.{ℕ, zero, suc, _+_, _-_, _^_, _≤_, _<_, min}
+use Prim.Native.Nat.{ℕ, zero, suc, _+_, _-_, _≤_, _<_, min}
 use native.Mathlib.Omega.{arith}
 use native.Mathlib.Decide.{ℕ-discrete}
 use borrow.Author.Tests.{eq-eqb, ne-eqb, lt-ltb}
 use lib.Dec.{ltb, eqb}
 use lib.ListN.{length, take}
 use lib.Seq.{length-take-le, take-take}
-use Rattle.problem.specs.Tables.{Tables, boats, size}
+use Rattle.problem.specs.Tables.{Tables, boats}
 use Rattle.methods.specs.Machine.{nowhere, back}
 use Rattle.methods.specs.Moves.{Forward, oneBack}
 use Rattle.methods.specs.BM.{Marks, bm, lowered}
 use Rattle.methods.specs.BT.{lookingBack}
-use Rattle.methods.specs.ByPlan.{isOpen, aheadByPlan}
-use Rattle.methods.proofs.Looking.{may-unlisted}
+use Rattle.methods.specs.ByPlan.{aheadByPlan}
 use Rattle.methods.proofs.Runs.{at}
 use Rattle.words.specs.Places.{lowAt}
-use Rattle.words.specs.Layout.{word, ChangedOnly, Placed, liveAt}
+use Rattle.words.specs.Layout.{word, ChangedOnly, Placed}
 use Rattle.words.proofs.ChangedOnly.{only-refl, only-widen, only-take}
-use Rattle.words.proofs.Frames.{same-before, same-after, placed-stays, indexed-stays, linked-stays, firsts-stay}
+use Rattle.words.proofs.Frames.{same-before, same-after, placed-stays, indexed-stays, linked-stays, firsts-stay, chained-stays}
+use Rattle.visits.specs.declared.Backward.{Backward}
 use Rattle.visits.specs.declared.Backward.the-variants.{OneBack}
 use Rattle.visits.specs.declared.Unlabelled.{Unlabelled}
 use Rattle.visits.specs.declared.Unlabelled.the-variants.{Back, NoPlan}
 use Rattle.visits.specs.Visits.{stepsOver}
 use Rattle.looking_back.specs.Kept.{KeptBack}
-use Rattle.marking.specs.Marks.{marksOf, NeverRises}
-use Rattle.live_words.specs.Lives.{Lives, Copied}
+use Rattle.marks.specs.Marks.{marksOf, NeverRises}
+use Rattle.live_words.specs.Lives.{Lives}
 use Rattle.live_words.specs.Kept.{KeptAhead}
-use Rattle.live_words.proofs.Live.{lives-stay, copied-stays}
-use Rattle.live_words.proofs.Words.{bits-same}
-use Rattle.live_words.proofs.Openings.{open-suc}
+use Rattle.live_words.proofs.Live.{lives-stay, blames-kept, blames-less}
 use Rattle.moves.specs.declared.Moves.the-variants.{LookingBack, Marking, LookingAhead}
 use Rattle.moves.specs.Memory.{Kept}
 use Rattle.unlabelling.specs.Unlabels.{Leaving, Unlabels}
@@ -45,18 +43,6 @@ module _ (t : Tables) (w : List ℕ) {i h : ℕ} (lh : h < i) where
 
   lives-back : Lives t w (take i w) i → Lives t w (take h w) h
   lives-back l k j b lk lj jn lb = rw (take-take k h w lk) (rw (take-take k i w (omega arith)) at (l k j b (omega arith) lj jn lb))
-
-  -- a boat that is not listed with h refuses it nothing, so the next level has the same word
-  copied-back : i ≤ length w → ((k : ℕ) → word w k < 2 ^ 64) → Lives t w (take i w) i → Copied t w h
-  copied-back long fit l j lj jn f =
-      bits-same 64 (liveAt w (suc h) j) (liveAt w h j) (fit _) (fit _)
-      (λ b lb. l (suc h) j b (omega arith) (omega arith) jn lb ∙ ap (λ (x : Bool). x && ltb b (size (t .sizes) j)) (stays b) ∙ sym (l h j b (omega arith) (omega arith) jn lb))
-    where
-      stays : (b : ℕ) → isOpen t (take (suc h) (take i w)) j b ≡ isOpen t (take h (take i w)) j b
-      stays b =
-          open-suc t j b (take i w) h (omega (arith, length-take-le i w long))
-          ∙ ap (λ (m : Bool). isOpen t (take h (take i w)) j b && m) (may-unlisted t h (at (take i w) h) j b f)
-          ∙ and-true (isOpen t (take h (take i w)) j b)
 
 -- ---- boat i is left: the words of the sets, or of b, may have changed
 module _ {t : Tables} {w : List ℕ} {i : ℕ} (g : Leaving t w i) where
@@ -76,14 +62,14 @@ module _ {t : Tables} {w : List ℕ} {i : ℕ} (g : Leaving t w i) where
     pub back-kept : KeptBack t w i → KeptBack t w′ h
     back-kept q = record { linked = linked-stays t o (omega arith) (q .linked); placed = placed-then (q .placed) }
 
-    pub ahead-kept : ((k : ℕ) → word w k < 2 ^ 64) → KeptAhead t w i → KeptAhead t w′ h
-    ahead-kept fit q =
-        let few = g .sane .fewBoats in
+    pub ahead-kept : {backward : Backward} → KeptAhead backward t w i → KeptAhead backward t w′ h
+    ahead-kept {backward} q =
         record {
-          firsts = firsts-stay t w w′ few (same-after o (omega arith)) (q .firsts);
+          firsts = firsts-stay t w w′ (g .sane .fewBoats) (same-after o (omega arith)) (q .firsts);
+          chained = chained-stays t w w′ (g .sane) (same-after o (omega arith)) (q .chained);
           placed = placed-then (q .placed);
-          lives = rw (only-take o h (omega (arith, left-few)) (omega (arith, left-long))) (lives-stay t w w′ few (take h w) h (same-after o (omega arith)) (lives-back t w lh (q .lives)));
-          copied = λ _. copied-stays t w w′ few h (same-after o (omega arith)) (copied-back t w lh left-long fit (q .lives));
+          lives = rw (only-take o h (omega (arith, left-few)) (omega (arith, left-long))) (lives-stay t w w′ (g .sane) (take h w) h (same-after o (omega arith)) (lives-back t w lh (q .lives)));
+          blames = blames-kept t w w′ (g .sane) backward h (same-after o (omega arith)) (same-after o (omega arith)) (blames-less backward t w (omega arith) (q .blames));
         }
 
 -- ---- one boat back
@@ -110,14 +96,14 @@ back-steps {t} {w} (suc h) g q =
       goes = goes-one t (lookingBack t) (take (suc h) w) h (left-plan g);
     }
 
-ahead-steps : {t : Tables} {w : List ℕ} (i : ℕ) → Leaving t w i → ((k : ℕ) → word w k < 2 ^ 64) → KeptAhead t w i → Unlabels (LookingAhead OneBack) t w i w (stepsBack i)
-ahead-steps {t} {w} zero g fit q = record { only = only-refl _ _ w; goes = goes-nowhere t (aheadByPlan t) (take 0 w) (left-plan g) }
-ahead-steps {t} {w} (suc h) g fit q =
+ahead-steps : {t : Tables} {w : List ℕ} (i : ℕ) → Leaving t w i → KeptAhead OneBack t w i → Unlabels (LookingAhead OneBack) t w i w (stepsBack i)
+ahead-steps {t} {w} zero g q = record { only = only-refl _ _ w; goes = goes-nowhere t (aheadByPlan t) (take 0 w) (left-plan g) }
+ahead-steps {t} {w} (suc h) g q =
     record {
       below = omega arith;
       same = refl;
       only = only-refl _ _ w;
-      kept = record { words = ahead-kept g (only-refl _ _ w) (omega arith) fit q; sets = tt };
+      kept = record { words = ahead-kept g (only-refl _ _ w) (omega arith) q; sets = tt };
       goes = goes-one t (aheadByPlan t) (take (suc h) w) h (left-plan g);
     }
 
@@ -125,8 +111,8 @@ module _ {t : Tables} {w : List ℕ} {i : ℕ} (g : Leaving t w i) where
   pub back-by-one : {r : Unlabelled} → r ≡ stepsBack i → KeptBack t w i → Unlabels (LookingBack OneBack) t w i w r
   back-by-one e q = subst (λ (x : Unlabelled). Unlabels (LookingBack OneBack) t w i w x) (sym e) (back-steps i g q)
 
-  pub ahead-by-one : {r : Unlabelled} → r ≡ stepsBack i → ((k : ℕ) → word w k < 2 ^ 64) → KeptAhead t w i → Unlabels (LookingAhead OneBack) t w i w r
-  ahead-by-one e fit q = subst (λ (x : Unlabelled). Unlabels (LookingAhead OneBack) t w i w x) (sym e) (ahead-steps i g fit q)
+  pub ahead-by-one : {r : Unlabelled} → r ≡ stepsBack i → KeptAhead OneBack t w i → Unlabels (LookingAhead OneBack) t w i w r
+  ahead-by-one e q = subst (λ (x : Unlabelled). Unlabels (LookingAhead OneBack) t w i w x) (sym e) (ahead-steps i g q)
 
   -- ---- and the marks' b lowered
   pub marked-none : i ≡ 0 → Unlabels Marking t w i w NoPlan

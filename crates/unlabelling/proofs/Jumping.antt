@@ -7,6 +7,7 @@ use mathlib.Core.Option.{Option}
 use Prim.Native.Nat.{ℕ, suc, _^_, _≤_, _<_}
 use native.Mathlib.Omega.{arith}
 use native.Mathlib.Decide.{decLe, decLt, ℕ-discrete}
+use native.Mathlib.Nat.{le-refl}
 use lib.Bits.{bitOr, or-lt}
 use lib.ListN.{length, take, set}
 use lib.Pow.{pow-mono}
@@ -18,8 +19,8 @@ use Rattle.methods.specs.Moves.{Boats, Forward}
 use Rattle.methods.specs.BT.{lookingBack}
 use Rattle.methods.specs.CBJ.{Sets, deepest, handedDown, jump, toBlame}
 use Rattle.methods.specs.ByPlan.{blamersOf, aheadByPlan}
-use Rattle.words.specs.Places.{setAt}
-use Rattle.words.specs.Layout.{word, ChangedOnly}
+use Rattle.words.specs.Places.{setAt, lastAt, blameAt}
+use Rattle.words.specs.Layout.{word, leftAt, ChangedOnly}
 use Rattle.words.specs.Sets.{Deepest, HandedDown, membersOf, setWords, SetsBelow}
 use Rattle.words.proofs.Bits.{bit-zero, bit-or, deepest-is, deepest-empty}
 use Rattle.words.proofs.ChangedOnly.{only-refl, only-set, only-widen, only-take}
@@ -28,9 +29,8 @@ use Rattle.visits.specs.declared.Unlabelled.{Unlabelled}
 use Rattle.visits.specs.declared.Unlabelled.the-variants.{Back, NoPlan}
 use Rattle.visits.specs.Visits.{State, stepsOver, state}
 use Rattle.looking_back.specs.Kept.{KeptBack}
-use Rattle.live_words.specs.Lives.{LostAt}
 use Rattle.live_words.specs.Kept.{KeptAhead}
-use Rattle.live_words.proofs.Live.{lost-blamers}
+use Rattle.live_words.proofs.Live.{blame-blamers}
 use Rattle.moves.specs.declared.Moves.the-variants.{LookingBack, LookingAhead}
 use Rattle.unlabelling.specs.Unlabels.{Leaving, Unlabels}
 use Rattle.unlabelling.specs.Jumps.{HandsDown, JumpsBack}
@@ -144,31 +144,39 @@ module _ {t : Tables} {w : List ℕ} {i : ℕ} (g : Leaving t w i) where
         goes = goes-back t (lookingBack t) w i (word w (setAt i)) (g .boat) (left-long g) (λ j. sym (or-none (bit (word w (setAt i)) j))) w′ h d;
       }
 
-  -- ---- looking ahead: and those that struck a slot of the boat
-  module _ {u : ℕ} (lost : LostAt w i i u) where
-    pub blamed-below : SetsBelow w i → bitOr (word w (setAt i)) u < 2 ^ i
-    blamed-below l = or-lt i (word w (setAt i)) u (l i (omega arith)) (lost .below)
+  -- ---- looking ahead: and those that struck a slot of the boat, which stand beside its last live word
+  module _ (q : KeptAhead BySets t w i) (l : SetsBelow w i) where
+    abbrev blamed : ℕ
+    blamed = bitOr (word w (setAt i)) (word w (blameAt (word w (lastAt i))))
 
-    module _ (fit : (k : ℕ) → word w k < 2 ^ 64) (q : KeptAhead t w i) where
-      all-blamed : (j : ℕ) → bit (bitOr (word w (setAt i)) u) j ≡ (bit (word w (setAt i)) j || aheadByPlan t .blamers tt (take i w) j)
+    beside-last : word w (blameAt (word w (lastAt i))) ≡ word w (blameAt (leftAt (t .pairs) i i))
+    beside-last = ap (λ (n : ℕ). word w (blameAt n)) (q .chained .last i (g .boat))
+
+    pub blamed-below : blamed < 2 ^ i
+    blamed-below = or-lt i _ _ (l i (le-refl i)) (rw beside-last (q .blames i i (le-refl i) (g .boat) .below))
+
+    module _ (fit : (k : ℕ) → word w k < 2 ^ 64) where
+      all-blamed : (j : ℕ) → bit blamed j ≡ (bit (word w (setAt i)) j || aheadByPlan t .blamers tt (take i w) j)
       unfolding aheadByPlan
       all-blamed j =
           let e = left-plan g in
-          bit-or (word w (setAt i)) u j
+          bit-or (word w (setAt i)) (word w (blameAt (word w (lastAt i)))) j
           ∙ ap (λ (b : Bool). bit (word w (setAt i)) j || b)
-          (lost-blamers t w (take i w) i i e (omega arith) (g .boat) (g .sane .fewSlots i (g .boat)) fit (q .lives) u lost j ∙ ap (λ (n : ℕ). blamersOf t (take i w) n j) (sym e))
+          (ap (λ (n : ℕ). bit n j) beside-last
+          ∙ blame-blamers t w (take i w) i i e (le-refl i) (g .boat) (g .sane .fewSlots i (g .boat)) fit (q .lives) (q .blames) j
+          ∙ ap (λ (n : ℕ). blamersOf t (take i w) n j) (sym e))
 
-      pub ahead-by-sets : SetsBelow w i → (w′ : List ℕ) (r : Unlabelled) → JumpsBack w i (bitOr (word w (setAt i)) u) w′ r → Unlabels (LookingAhead BySets) t w i w′ r
-      ahead-by-sets l w′ NoPlan d =
+      pub ahead-by-sets : (w′ : List ℕ) (r : Unlabelled) → JumpsBack w i blamed w′ r → Unlabels (LookingAhead BySets) t w i w′ r
+      ahead-by-sets w′ NoPlan d =
           record {
             only = rw (d .1) (only-refl _ _ w);
-            goes = nobody-left t (aheadByPlan t) w i (bitOr (word w (setAt i)) u) (g .boat) (left-long g) all-blamed (d .0);
+            goes = nobody-left t (aheadByPlan t) w i blamed (g .boat) (left-long g) all-blamed (d .0);
           }
-      ahead-by-sets l w′ (Back h) d =
+      ahead-by-sets w′ (Back h) d =
           record {
             below = d .below;
             same = plan-same (left-few g) (g .room) d;
             only = within (left-few g) (g .room) d;
-            kept = record { words = ahead-kept g (beside (left-few g) (g .room) d) (d .below) fit q; sets = below-after (left-few g) (g .room) d l };
-            goes = goes-back t (aheadByPlan t) w i (bitOr (word w (setAt i)) u) (g .boat) (left-long g) all-blamed w′ h d;
+            kept = record { words = ahead-kept g (beside (left-few g) (g .room) d) (d .below) q; sets = below-after (left-few g) (g .room) d l };
+            goes = goes-back t (aheadByPlan t) w i blamed (g .boat) (left-long g) all-blamed w′ h d;
           }

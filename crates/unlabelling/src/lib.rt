@@ -36,7 +36,7 @@ fn mark_back(sizes: &[u8], pairs: &[u8], rows: &[u64], i: usize, work: &mut [u64
         return Unlabelled::NoPlan;
     }
     let h = i - 1;
-    marking::lower(sizes.len(), i, h, work);
+    marks::lower(sizes.len(), i, h, work);
     Unlabelled::Back(h)
 }
 
@@ -76,8 +76,8 @@ pub fn unlabel(
         Moves::LookingAhead(backward) => match backward {
             Backward::OneBack => step_back(i),
             Backward::BySets => {
-                let blamed = work[Words::SETS + i] | live_words::blamers(i, i, work);
-                jump_back(i, blamed, work)
+                let last = work[Words::LASTS + i] as usize;
+                jump_back(i, work[Words::SETS + i] | work[Words::BLAMES + last], work)
             }
         },
     }

@@ -1,3 +1,4 @@
 pub mod Looks
 pub mod Looking
+pub mod Ends
 pub mod Visiting

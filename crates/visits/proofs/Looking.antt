@@ -1,22 +1,23 @@
--- Looking back over the placed boats, one look at a time: where each look leads, whatever is to come at the end.
+-- Looking back over the placed boats, one look at a time: the checks made so far, before those that the boats further on come to.
 use mathlib.Core.Path.{_≡_, refl, sym, ap, _∙_, subst}
 use mathlib.Core.Bool.{Bool, true, false}
-use mathlib.Core.List.{List, [], _∷_}
-use mathlib.Core.Option.{Option, none, some}
-use Prim.Native.Nat.{ℕ, suc, _+_, _≤_, _<_}
+use mathlib.Core.List.{List, [], _∷_, _++_, append-assoc}
+use mathlib.Core.Option.{none, some}
+use Prim.Native.Nat.{ℕ, suc, _+_, _-_, _≤_, _<_}
 use native.Mathlib.Omega.{arith}
 use native.Mathlib.Numerals.{add-one}
-use lib.ListN.{length, take, drop, drop-of-length-le}
+use lib.ListN.{length, take, drop, length-append, length-drop, drop-of-length-le}
 use lib.Seq.{length-take-le, getD-take, drop-cons}
 use Rattle.problem.specs.Tables.{Tables, isListed}
+use Rattle.problem.specs.declared.Allowance.{Allowance}
 use Rattle.problem.specs.declared.Allowance.the-variants.{Checks}
 use Rattle.events.specs.declared.Counts.{Counts}
 use Rattle.events.specs.declared.Counted.{Counted}
 use Rattle.events.specs.declared.Counted.the-variants.{Within, Out as CountedOut}
-use Rattle.events.specs.Events.{Event, check, Search, _then_}
-use Rattle.events.specs.Allowances.{outcome, undecided}
-use Rattle.events.specs.Counts.{checkCounted, Fits, cutAt, Leads}
-use Rattle.events.proofs.Leading.{leads-refl, leads-eq, leads-trans, leads-check, check-out}
+use Rattle.events.specs.Events.{Event, check, trialsOf, trials}
+use Rattle.events.specs.Counts.{checkCounted, Fits, Makes, StopsIn}
+use Rattle.events.proofs.Counting.{trials-append}
+use Rattle.events.proofs.Leading.{makes-none, makes-append, makes-eq, makes-check, check-stops, check-out, stops-behind, stops-eq, stops-count, length-made}
 use Rattle.methods.specs.Choices.{mayStand}
 use Rattle.methods.specs.BT.{Looked, lookAt, lookBack}
 use Rattle.words.specs.Layout.{word}
@@ -28,12 +29,6 @@ use Rattle.visits.specs.Looks.{checkedLook}
 abbrev pub lookOf : (listed may : Bool) → Counts → Look
 lookOf false may m = Allowed m
 lookOf true may m = checkedLook may (checkCounted m)
-
--- ---- one look, as what is to come: an unlisted pair costs no check
-abbrev afterLook : (listed may : Bool) → Event → (on off : Search) → Search
-afterLook false may e on off = on
-afterLook true true e on off = (e ∷ []) then on
-afterLook true false e on off = (e ∷ []) then off
 
 -- what the code's look says of the counts
 allowed-case : (o : Bool) (c : Counted) (k : Counts) → checkedLook o c ≡ Allowed k → (o ≡ true) × (c ≡ Within k)
@@ -54,75 +49,124 @@ out-case false (Within n) k e = let z : _≡_ {A = ℕ} 0 1 = cc in absurd (omeg
 out-case true (CountedOut n) k e = cc
 out-case false (CountedOut n) k e = cc
 
-module _ (h x i a : ℕ) (on off : Search) (m k : Counts) (f : Fits m) where
-  leads-allowed : (l o : Bool) → lookOf l o m ≡ Allowed k → Leads m (afterLook l o (check h x i a) on off) k on
-  leads-allowed false o e = let z : m ≡ k = cc in subst (λ (n : Counts). Leads m on n on) z (leads-refl m on f)
-  leads-allowed true o e =
-      let q = allowed-case o (checkCounted m) k e in
-      subst (λ (b : Bool). Leads m (afterLook true b (check h x i a) on off) k on) (sym (q .0)) (leads-check m k on f h x i a (q .1))
+-- ---- checks that are made before what is found further on
+abbrev pub behind : List Event → Looked → Looked
+behind es r = record { checks = es ++ r .checks; failing = r .failing }
 
-  leads-forbidden : (l o : Bool) → lookOf l o m ≡ Forbidden k → Leads m (afterLook l o (check h x i a) on off) k off
-  leads-forbidden false o e = let z : _≡_ {A = ℕ} 0 1 = cc in absurd (omega arith)
-  leads-forbidden true o e =
-      let q = forbidden-case o (checkCounted m) k e in
-      subst (λ (b : Bool). Leads m (afterLook true b (check h x i a) on off) k off) (sym (q .0)) (leads-check m k off f h x i a (q .1))
+behind-more : (es : List Event) (e : Event) (r : Looked) → behind es (behind (e ∷ []) r) ≡ behind (es ++ (e ∷ [])) r
+behind-more es e r = ap (λ (l : List Event). record { checks = l; failing = r .failing }) (sym (append-assoc es (e ∷ []) (r .checks)))
 
-  leads-out : (l o : Bool) → lookOf l o m ≡ OutOfChecks k → cutAt m (afterLook l o (check h x i a) on off) ≡ outcome (undecided Checks) (k .checks) (k .trials)
-  leads-out false o e = let z : _≡_ {A = ℕ} 0 1 = cc in absurd (omega arith)
-  leads-out true true e = check-out m k on f h x i a (out-case true (checkCounted m) k e)
-  leads-out true false e = check-out m k off f h x i a (out-case false (checkCounted m) k e)
+-- a boat is looked at once at most
+looks-few : (t : Tables) (i a h : ℕ) (xs : List ℕ) → length (lookBack t i a h xs .checks) ≤ length xs
+unfolding lookBack
+looks-few t i a h [] = omega arith
+looks-few t i a h (x ∷ xs) = by (isListed (t .pairs) h i) (mayStand t h x i a) (looks-few t i a (suc h) xs)
+  where
+    by : (l o : Bool) → length (lookBack t i a (suc h) xs .checks) ≤ length xs →
+        length (lookAt h (check h x i a) l o (lookBack t i a (suc h) xs) .checks) ≤ suc (length xs)
+    by false o k = omega arith
+    by true true k = omega arith
+    by true false k = omega arith
 
--- ---- the looks, one after the other: what is to come at their end, by the boat that failed, if one did
-module _ (ended : Option ℕ → Search) where
-  abbrev found : Looked → Search
-  found r = r .checks then ended (r .failing)
+-- so of the looks of a choice fewer are made than there are boats, where the next one is not
+pub looks-made-few : (t : Tables) (w : List ℕ) (i a h : ℕ) → i ≤ length w → {m n : Counts} {which : Allowance} {d : ℕ} →
+    StopsIn m (lookBack t i a h (drop h (take i w)) .checks) which d n → d < i
+looks-made-few t w i a h le z =
+    omega
+    (arith, z .count, simp length-append at (ap length (z .split)), looks-few t i a h (drop h (take i w)), length-drop h (take i w), length-take-le i w le)
 
-  found-more : (l o : Bool) (h : ℕ) (e : Event) (r : Looked) → found (lookAt h e l o r) ≡ afterLook l o e (found r) (ended (some h))
-  found-more false o h e r = refl
-  found-more true true h e r = refl
-  found-more true false h e r = refl
+-- choice a of boat i: `whole` is what its looks come to, from the counts m on; the boats below h have been looked at, and the counts are n
+pub record Looking (t : Tables) (w : List ℕ) (i a : ℕ) (whole : Looked) (m : Counts) (h : ℕ) (n : Counts) : Type 0 where
+  pub made : List Event
+  pub only : trials made ≡ 0
+  pub split : whole ≡ behind made (lookBack t i a h (drop h (take i w)))
+  pub makes : Makes m made n
 
-  -- the boats from h on are still to be looked at
-  abbrev pub from : Tables → List ℕ → (i a h : ℕ) → Search
-  from t w i a h = found (lookBack t i a h (drop h (take i w)))
+-- at the first look
+pub looks-begin : (t : Tables) (w : List ℕ) (i a h : ℕ) (m : Counts) → Fits m → Looking t w i a (lookBack t i a h (drop h (take i w))) m h m
+unfolding trialsOf
+looks-begin t w i a h m f = record { made = []; only = refl; split = refl; makes = makes-none m f }
 
-  module _ (t : Tables) (w : List ℕ) (i a : ℕ) (le : i ≤ length w) (h : ℕ) where
-    at-next : h < i → drop h (take i w) ≡ word w h ∷ drop (suc h) (take i w)
-    at-next lh = drop-cons (take i w) h 0 (omega (arith, length-take-le i w le)) ∙ ap (λ (x : ℕ). x ∷ drop (suc h) (take i w)) (getD-take i w h 0 lh)
+module _ {t : Tables} {w : List ℕ} {i a : ℕ} {whole : Looked} {m : Counts} {h : ℕ} {n : Counts} (le : i ≤ length w) (b : Looking t w i a whole m h n) where
+  -- as many checks are made as the count has risen
+  pub looks-made : length (b .made) ≡ n .checks - m .checks
+  looks-made = length-made (b .makes) (b .only)
 
-    from-more : h < i → from t w i a h ≡ afterLook (isListed (t .pairs) h i) (mayStand t h (word w h) i a) (check h (word w h) i a) (from t w i a (suc h)) (ended (some h))
+  -- past the last placed boat: nobody fails
+  pub looks-end : i ≤ h → (whole .failing ≡ none) × Makes m (whole .checks) n
+  unfolding lookBack
+  looks-end lh =
+      let e : whole ≡ behind (b .made) (record { checks = []; failing = none }) =
+      b .split ∙ ap (λ (xs : List ℕ). behind (b .made) (lookBack t i a h xs)) (drop-of-length-le (take i w) {i = h} (omega (arith, length-take-le i w le))) in
+      (ap (λ (r : Looked). r .failing) e, makes-eq (sym (ap (λ (r : Looked). r .checks) e)) (makes-append (b .makes) (makes-none n (b .makes .fits))))
+
+  module _ (lh : h < i) where
+    at-next : drop h (take i w) ≡ word w h ∷ drop (suc h) (take i w)
+    at-next = drop-cons (take i w) h 0 (omega (arith, length-take-le i w le)) ∙ ap (λ (x : ℕ). x ∷ drop (suc h) (take i w)) (getD-take i w h 0 lh)
+
+    -- what is found further on
+    abbrev rest : Looked
+    rest = lookBack t i a (suc h) (drop (suc h) (take i w))
+
+    abbrev due : Event
+    due = check h (word w h) i a
+
+    open-look : (l o : Bool) → isListed (t .pairs) h i ≡ l → mayStand t h (word w h) i a ≡ o → whole ≡ behind (b .made) (lookAt h due l o rest)
     unfolding lookBack
-    from-more lh =
-        ap (λ (xs : List ℕ). found (lookBack t i a h xs)) (at-next lh)
-        ∙ found-more (isListed (t .pairs) h i) (mayStand t h (word w h) i a) h (check h (word w h) i a) (lookBack t i a (suc h) (drop (suc h) (take i w)))
+    open-look l o el eo =
+        b .split ∙ ap (λ (xs : List ℕ). behind (b .made) (lookBack t i a h xs)) at-next
+        ∙ ap (λ (x : Bool). behind (b .made) (lookAt h due x (mayStand t h (word w h) i a) rest)) el
+        ∙ ap (λ (x : Bool). behind (b .made) (lookAt h due l x rest)) eo
 
     -- an unlisted boat costs no check
-    pub from-past : h < i → isListed (t .pairs) h i ≡ false → from t w i a h ≡ from t w i a (suc h)
-    from-past lh f = from-more lh ∙ ap (λ (l : Bool). afterLook l (mayStand t h (word w h) i a) (check h (word w h) i a) (from t w i a (suc h)) (ended (some h))) f
+    pub looks-past : isListed (t .pairs) h i ≡ false → Looking t w i a whole m (suc h) n
+    looks-past e = record { made = b .made; only = b .only; split = open-look false _ e refl; makes = b .makes }
 
-    pub from-end : i ≤ h → from t w i a h ≡ ended none
-    unfolding lookBack
-    from-end lh = ap (λ (xs : List ℕ). found (lookBack t i a h xs)) (drop-of-length-le (take i w) {i = h} (omega (arith, length-take-le i w le)))
+    module _ (r : Look) (k : Counts) (e : r ≡ lookOf (isListed (t .pairs) h i) (mayStand t h (word w h) i a) n) where
+      -- one check more
+      counted : checkCounted n ≡ Within k → Makes m (b .made ++ (due ∷ [])) k
+      counted c = makes-append (b .makes) (makes-check n k (b .makes .fits) h (word w h) i a c)
 
-    module _ (m : Counts) (f : Fits m) where
-      -- past the last placed boat
-      pub looks-end : i ≤ h → Leads m (from t w i a h) m (ended none)
-      looks-end lh = leads-eq m _ _ f (from-end lh)
+      one-more : trials (b .made ++ (due ∷ [])) ≡ 0
+      unfolding trialsOf
+      one-more = trials-append (b .made) (due ∷ []) ∙ ap (λ (x : ℕ). x + 0) (b .only)
 
-      -- one look, by what it comes to
-      module _ (lh : h < i) (r : Look) (k : Counts) (e : r ≡ lookOf (isListed (t .pairs) h i) (mayStand t h (word w h) i a) m) where
-        pub looks-allowed : r ≡ Allowed k → Leads m (from t w i a h) k (from t w i a (h + 1))
-        looks-allowed g =
-            rw add-one
-            (leads-trans (leads-eq m _ _ f (from-more lh))
-            (leads-allowed h (word w h) i a (from t w i a (suc h)) (ended (some h)) m k f (isListed (t .pairs) h i) (mayStand t h (word w h) i a) (sym e ∙ g)))
+      pub looks-allowed : r ≡ Allowed k → Looking t w i a whole m (h + 1) k
+      looks-allowed f = rw add-one (by (isListed (t .pairs) h i) refl (sym e ∙ f))
+        where
+          by : (l : Bool) → isListed (t .pairs) h i ≡ l → lookOf l (mayStand t h (word w h) i a) n ≡ Allowed k → Looking t w i a whole m (suc h) k
+          by false el g = let z : n ≡ k = cc in subst (λ (x : Counts). Looking t w i a whole m (suc h) x) z (looks-past el)
+          by true el g =
+              let q = allowed-case (mayStand t h (word w h) i a) (checkCounted n) k g in
+              record {
+                made = b .made ++ (due ∷ []);
+                only = one-more;
+                split = open-look true true el (q .0) ∙ behind-more (b .made) due rest;
+                makes = counted (q .1);
+              }
 
-        pub looks-forbidden : r ≡ Forbidden k → Leads m (from t w i a h) k (ended (some h))
-        looks-forbidden g =
-            leads-trans (leads-eq m _ _ f (from-more lh))
-            (leads-forbidden h (word w h) i a (from t w i a (suc h)) (ended (some h)) m k f (isListed (t .pairs) h i) (mayStand t h (word w h) i a) (sym e ∙ g))
+      pub looks-forbidden : r ≡ Forbidden k → (whole .failing ≡ some h) × Makes m (whole .checks) k
+      looks-forbidden f = by (isListed (t .pairs) h i) refl (sym e ∙ f)
+        where
+          by : (l : Bool) → isListed (t .pairs) h i ≡ l → lookOf l (mayStand t h (word w h) i a) n ≡ Forbidden k → (whole .failing ≡ some h) × Makes m (whole .checks) k
+          by false el g = let z : _≡_ {A = ℕ} 0 1 = cc in absurd (omega arith)
+          by true el g =
+              let q = forbidden-case (mayStand t h (word w h) i a) (checkCounted n) k g in
+              let s = open-look true false el (q .0) in
+              (ap (λ (x : Looked). x .failing) s, makes-eq (sym (ap (λ (x : Looked). x .checks) s)) (counted (q .1)))
 
-        pub looks-out : r ≡ OutOfChecks k → cutAt m (from t w i a h) ≡ outcome (undecided Checks) (k .checks) (k .trials)
-        looks-out g =
-            ap (cutAt m) (from-more lh)
-            ∙ leads-out h (word w h) i a (from t w i a (suc h)) (ended (some h)) m k f (isListed (t .pairs) h i) (mayStand t h (word w h) i a) (sym e ∙ g)
+      pub looks-out : r ≡ OutOfChecks k → StopsIn m (whole .checks) Checks (k .checks - m .checks) k
+      looks-out f = by (isListed (t .pairs) h i) refl (sym e ∙ f)
+        where
+          stopped : checkCounted n ≡ CountedOut k → (es : List Event) → whole .checks ≡ b .made ++ due ∷ es → StopsIn m (whole .checks) Checks (k .checks - m .checks) k
+          stopped c es s =
+              let z : length (b .made) + 0 ≡ k .checks - m .checks = omega (arith, looks-made, ap (λ (x : Counts). x .checks) (check-out n k (b .makes .fits) c)) in
+              stops-eq (sym s) (stops-count z (stops-behind (b .makes) (check-stops n k (b .makes .fits) h (word w h) i a es c)))
+
+          on : (o : Bool) → mayStand t h (word w h) i a ≡ o → isListed (t .pairs) h i ≡ true → checkCounted n ≡ CountedOut k → StopsIn m (whole .checks) Checks (k .checks - m .checks) k
+          on true eo el c = stopped c (rest .checks) (ap (λ (x : Looked). x .checks) (open-look true true el eo))
+          on false eo el c = stopped c [] (ap (λ (x : Looked). x .checks) (open-look true false el eo))
+
+          by : (l : Bool) → isListed (t .pairs) h i ≡ l → lookOf l (mayStand t h (word w h) i a) n ≡ OutOfChecks k → StopsIn m (whole .checks) Checks (k .checks - m .checks) k
+          by false el g = let z : _≡_ {A = ℕ} 0 1 = cc in absurd (omega arith)
+          by true el g = on (mayStand t h (word w h) i a) refl el (out-case (mayStand t h (word w h) i a) (checkCounted n) k g)

@@ -1,16 +1,18 @@
--- What a visit of a boat leads to, under both ways back over a forward move that remembers nothing.
+-- What a visit of a boat comes to: for any method, and over the words, for a forward move that remembers nothing under both ways back.
 use mathlib.Core.Path.{_≡_}
 use mathlib.Core.List.{List, [], _∷_, _++_}
 use Prim.Native.Nat.{ℕ, _^_, _≤_, _<_}
 use lib.ListN.{length, take}
-use Rattle.problem.specs.Tables.{Tables, boats, size}
+use Rattle.problem.specs.Tables.{Tables, boats}
 use Rattle.problem.specs.Sane.{Sane}
+use Rattle.problem.specs.declared.Allowance.{Allowance}
 use Rattle.problem.specs.declared.Allowance.the-variants.{Checks, Trials}
-use Rattle.events.specs.Events.{Search}
-use Rattle.events.specs.Allowances.{outcome, undecided}
+use Rattle.events.specs.Events.{Event}
 use Rattle.events.specs.declared.Counts.{Counts}
-use Rattle.events.specs.Counts.{Fits, cutAt, Leads}
-use Rattle.methods.specs.Machine.{Steps, searchFrom}
+use Rattle.events.specs.Counts.{Fits, Makes, StopsIn}
+use Rattle.methods.specs.Choices.{choices}
+use Rattle.methods.specs.Machine.{Steps, next, step}
+use Rattle.methods.specs.GivenUp.{GivenUp}
 use Rattle.methods.specs.Moves.{Forward, stepping}
 use Rattle.methods.specs.CBJ.{Jumping, jumping}
 use Rattle.visits.specs.declared.Backward.{Backward}
@@ -40,28 +42,55 @@ abbrev pub state : (backward : Backward) → (ℕ → ℕ) → State backward
 state OneBack f = tt
 state BySets f = record { sets = membersOf f; rest = tt }
 
--- what is to come at boat i under the words w, from slot a on, with s as the boat's set
-abbrev pub toCome : Tables → Forward (Unit {0}) → (backward : Backward) → List ℕ → (i a s : ℕ) → Search
-toCome t F backward w i a s = searchFrom t (stepsOver t F backward) (take i w) a (state backward (setWords w i s))
+-- ---- a visit, for any method: from choice a of the boat at hand on, with σ remembered and the counts m
+module _ (t : Tables) {S : Type 0} (M : Steps S) (p : List ℕ) (a : ℕ) (σ : S) (m : Counts) where
+  -- the choices before b are given up, by these events; τ is remembered then, and the counts are k
+  pub record ComesTo (b : ℕ) (τ : S) (k : Counts) : Type 0 where
+    pub events : List Event
+    pub givenUp : GivenUp t M p a σ events b τ
+    pub makes : Makes m events k
 
--- slot b of boat i has passed
-abbrev pub toComeAfter : Tables → Forward (Unit {0}) → (backward : Backward) → List ℕ → (i b s : ℕ) → Search
-toComeAfter t F backward w i b s = searchFrom t (stepsOver t F backward) (take i w ++ (b ∷ [])) 0 (state backward (setWords w i s))
+  -- it ends with choice b, which passes: υ is remembered after it
+  pub record Passes (b : ℕ) (υ : S) (k : Counts) : Type 0 where
+    pub inside : b < choices t (length p)
+    pub remembered : S
+    pub reached : Counts
+    pub comes : ComesTo b remembered reached
+    pub events : List Event
+    pub steps : step t M p b remembered ≡ next events (p ++ (b ∷ [])) 0 υ
+    pub makes : Makes reached events k
 
--- the visit ends with slot b, and with u as the boat's set
-pub record Passes (t : Tables) (F : Forward (Unit {0})) (backward : Backward) (w : List ℕ) (i a s : ℕ) (m : Counts) (b u : ℕ) (k : Counts) : Type 0 where
-  pub from : a ≤ b
-  pub inside : b < size (t .sizes) i
-  pub below : u < 2 ^ i
-  pub leads : Leads m (toCome t F backward w i a s) k (toComeAfter t F backward w i b u)
+  -- it ends with no choice left
+  pub record Spends (υ : S) (k : Counts) : Type 0 where
+    pub last : ℕ
+    pub none : choices t (length p) ≤ last
+    pub comes : ComesTo last υ k
 
--- the visit ends with no slot left
-pub record Spends (t : Tables) (F : Forward (Unit {0})) (backward : Backward) (w : List ℕ) (i a s : ℕ) (m : Counts) (u : ℕ) (k : Counts) : Type 0 where
-  pub below : u < 2 ^ i
-  pub leads : Leads m (toCome t F backward w i a s) k (toCome t F backward w i (size (t .sizes) i) u)
+-- the run ends inside the step at choice b: so many of its events are made, which takes the counts from m to k, and the next finds its allowance used up
+pub record StopsAt (t : Tables) {S : Type 0} (M : Steps S) (p : List ℕ) (b : ℕ) (τ : S) (m : Counts) (which : Allowance) (made : ℕ) (k : Counts) : Type 0 where
+  pub inside : b < choices t (length p)
+  pub events : List Event
+  pub plan : List ℕ
+  pub choice : ℕ
+  pub after : S
+  pub steps : step t M p b τ ≡ next events plan choice after
+  pub stops : StopsIn m events which made k
 
-abbrev pub Visits : Tables → Forward (Unit {0}) → (backward : Backward) → List ℕ → (i a s : ℕ) → Counts → Visited → Type 0
-Visits t F backward w i a s m (Passed b u k) = Passes t F backward w i a s m b u k
-Visits t F backward w i a s m (Spent u k) = Spends t F backward w i a s m u k
-Visits t F backward w i a s m (OutOfChecks k) = cutAt m (toCome t F backward w i a s) ≡ outcome (undecided Checks) (k .checks) (k .trials)
-Visits t F backward w i a s m (OutOfTrials k) = cutAt m (toCome t F backward w i a s) ≡ outcome (undecided Trials) (k .checks) (k .trials)
+-- a visit ends there
+pub record RunsOut (t : Tables) {S : Type 0} (M : Steps S) (p : List ℕ) (a : ℕ) (σ : S) (m : Counts) (which : Allowance) (b : ℕ) (τ : S) (made : ℕ) (k : Counts) : Type 0 where
+  pub reached : Counts
+  pub comes : ComesTo t M p a σ m b τ reached
+  pub stops : StopsAt t M p b τ reached which made k
+
+-- ---- a visit of boat i under the words w, over a forward move that remembers nothing: from slot a on, with s as the boat's set
+module _ (t : Tables) (F : Forward (Unit {0})) (backward : Backward) (w : List ℕ) (i a s : ℕ) (m : Counts) where
+  -- with u as the boat's set, which has boats below i alone
+  pub record WithSet (u : ℕ) (K : State backward → Type 0) : Type 0 where
+    pub below : u < 2 ^ i
+    pub ends : K (state backward (setWords w i u))
+
+  abbrev pub Visits : Visited → Type 0
+  Visits (Passed k u b) = WithSet u (λ τ. Passes t (stepsOver t F backward) (take i w) a (state backward (setWords w i s)) m b τ k)
+  Visits (Spent k u) = WithSet u (λ τ. Spends t (stepsOver t F backward) (take i w) a (state backward (setWords w i s)) m τ k)
+  Visits (OutOfChecks k u b made) = WithSet u (λ τ. RunsOut t (stepsOver t F backward) (take i w) a (state backward (setWords w i s)) m Checks b τ made k)
+  Visits (OutOfTrials k u b) = WithSet u (λ τ. RunsOut t (stepsOver t F backward) (take i w) a (state backward (setWords w i s)) m Trials b τ 0 k)

@@ -13,12 +13,12 @@ pub enum Backward {
     BySets,
 }
 
-// Where a visit of a boat leads: the slot that passed with the boat's conflict set, no slot left, or the end of the run.
+// Where a visit of a boat leads, with the counts and the boat's conflict set: the slot that passed, no slot left, or the end of the run, inside the step at a slot or before it. Inside, so many events of the step are made.
 pub enum Visited {
-    Passed(u64, u64, Counts),
-    Spent(u64, Counts),
-    OutOfChecks(Counts),
-    OutOfTrials(Counts),
+    Passed(Counts, u64, u64),
+    Spent(Counts, u64),
+    OutOfChecks(Counts, u64, u64, u64),
+    OutOfTrials(Counts, u64, u64),
 }
 
 // Where a boat with no slot left goes.

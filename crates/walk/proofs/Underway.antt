@@ -1,59 +1,66 @@
 -- A search on its moves: what the loop keeps, how each move keeps it and leaves less ahead, and how it ends.
-use mathlib.Core.Path.{_≡_, refl, sym, ap, _∙_, subst}
-use mathlib.Core.List.{List, []}
+use mathlib.Core.Path.{_≡_, sym, ap, _∙_, subst}
+use mathlib.Core.List.{List, [], _++_}
 use Prim.Native.Nat.{ℕ, suc, _≤_, _<_}
 use native.Mathlib.Omega.{arith}
 use lib.ListN.{length, take, getD}
 use lib.Seq.{length-take-le, take-take, getD-take}
-use Rattle.problem.specs.Tables.{Tables, boats, size}
+use Rattle.problem.specs.Tables.{Tables, boats}
 use Rattle.problem.specs.Sane.{Sane}
-use Rattle.events.specs.Events.{Search, solved, noPlan, Ending}
-use Rattle.events.specs.Allowances.{decided, outcome, cutFrom}
-use Rattle.problem.specs.declared.Reply.{Reply}
+use Rattle.problem.specs.declared.Allowance.{Allowance}
+use Rattle.events.specs.Events.{Event}
 use Rattle.events.specs.declared.Counts.{Counts}
-use Rattle.events.specs.Counts.{cutAt, Leads}
-use Rattle.events.proofs.Leading.{leads-refl, leads-eq, leads-trans}
+use Rattle.events.specs.Counts.{Makes}
+use Rattle.events.proofs.Leading.{makes-none, makes-append}
 use Rattle.methods.specs.Choices.{choices}
-use Rattle.methods.specs.Machine.{nowhere, stop, next, onward, searchFrom, search}
-use Rattle.methods.proofs.StepsLeft.{search-step, stepsLeftOf, forward-falls, return-falls}
-use Rattle.methods.proofs.Runs.{step-end, step-out, step-back}
+use Rattle.methods.specs.Machine.{nowhere, next, step}
+use Rattle.methods.specs.Reached.{here, onward}
+use Rattle.methods.proofs.StepsLeft.{stepsLeftOf, forward-falls, return-falls}
+use Rattle.methods.proofs.Runs.{step-out, step-back}
+use Rattle.methods.proofs.GivenUp.{steps-given-up}
 use Rattle.words.specs.Places.{used}
 use Rattle.words.specs.Layout.{word, ChangedOnly, Placed}
 use Rattle.words.proofs.ChangedOnly.{only-refl, only-trans}
+use Rattle.visits.specs.Visits.{ComesTo}
+use Rattle.visits.proofs.Ends.{come-le}
 use Rattle.moves.specs.declared.Moves.{Moves}
 use Rattle.moves.specs.declared.Moves.the-variants.{LookingBack, Marking, LookingAhead}
-use Rattle.moves.specs.Memory.{Memory, stepsBy, memory, Kept, toComeAt}
-use Rattle.labelling.specs.Labels.{MovesOn, NoneLeft}
-use Rattle.unlabelling.specs.Unlabels.{GoesBack}
+use Rattle.moves.specs.Memory.{Memory, stepsBy, memory, Kept}
 use Rattle.moves.specs.Prepared.{Prepared}
-use Rattle.walk.specs.Walks.{Setting, Walked, Searched}
+use Rattle.labelling.specs.Labels.{MovesOn, NoneLeft, Halts}
+use Rattle.unlabelling.specs.Unlabels.{GoesBack}
+use Rattle.walk.specs.declared.Ended.{Ended}
+use Rattle.walk.specs.declared.Ended.the-variants.{Undecided}
+use Rattle.walk.specs.Walks.{Arrives, EndsNoPlan, EndsAt, Ends, Setting, Walked, Searched}
 
 pub placed-of : (moves : Moves) (t : Tables) (w : List ℕ) (i : ℕ) → Kept moves t w i → Placed t w i
 placed-of (LookingBack backward) t w i k = k .words .placed
 placed-of Marking t w i k = k .placed
 placed-of (LookingAhead backward) t w i k = k .words .placed
 
--- x was to come under the counts m₀ and the words w₀, and the walk has come to slot a of boat i
-pub record Underway (moves : Moves) (t : Tables) (x : Search) (w₀ : List ℕ) (m₀ : Counts) (w : List ℕ) (i a : ℕ) (m : Counts) : Type 0 where
+-- from the words w₀, a place with the counts m₀, the walk has come to slot a of boat i
+pub record Underway (moves : Moves) (t : Tables) (p₀ : List ℕ) (a₀ : ℕ) (σ₀ : Memory moves) (w₀ : List ℕ) (m₀ : Counts) (w : List ℕ) (i a : ℕ) (m : Counts) : Type 0 where
   pub boat : i ≤ boats t
   pub only : ChangedOnly 0 used w₀ w
   pub kept : Kept moves t w i
-  pub leads : Leads m₀ x m (toComeAt moves t w i a)
+  pub arrives : Arrives moves t p₀ a₀ σ₀ m₀ (take i w) a (memory moves w i) m
 
--- how a search stops
-ends-at : (m : Counts) (r : Ending) {S : Type 0} (rest : List ℕ → ℕ → S → Search) → cutAt m (onward rest (stop r)) ≡ outcome (decided r) (m .checks) (m .trials)
-unfolding onward cutFrom
-ends-at m r rest = refl
+pub begins : (moves : Moves) (t : Tables) (w : List ℕ) (i a : ℕ) (m : Counts) → Setting moves t w i m → Underway moves t (take i w) a (memory moves w i) w m w i a m
+begins moves t w i a m p =
+    record { boat = p .boat; only = only-refl 0 used w; kept = p .kept; arrives = record { events = []; steps = here; makes = makes-none m (p .fits) } }
 
-goes-on : {S : Type 0} (rest : List ℕ → ℕ → S → Search) (p : List ℕ) (a : ℕ) (σ : S) → onward rest (next [] p a σ) ≡ rest p a σ
-unfolding onward
-goes-on rest p a σ = refl
+-- one step more, and choices given up
+module _ {moves : Moves} {t : Tables} {p₀ : List ℕ} {a₀ : ℕ} {σ₀ : Memory moves} {m₀ : Counts} {q : List ℕ} {b : ℕ} {τ : Memory moves} {n : Counts}
+    (v : Arrives moves t p₀ a₀ σ₀ m₀ q b τ n) where
+  arrives-step : {fs : List Event} {r : List ℕ} {c : ℕ} {υ : Memory moves} {k : Counts} → step t (stepsBy moves t) q b τ ≡ next fs r c υ → Makes n fs k →
+      Arrives moves t p₀ a₀ σ₀ m₀ r c υ k
+  arrives-step {fs} e g = record { events = v .events ++ fs; steps = onward (v .steps) e; makes = makes-append (v .makes) g }
 
-pub begins : (moves : Moves) (t : Tables) (w : List ℕ) (i a : ℕ) (m : Counts) → Setting moves t w i m → Underway moves t (toComeAt moves t w i a) w m w i a m
-begins moves t w i a m p = record { boat = p .boat; only = only-refl 0 used w; kept = p .kept; leads = leads-refl m _ (p .fits) }
+  arrives-come : {c : ℕ} {υ : Memory moves} {k : Counts} → ComesTo t (stepsBy moves t) q b τ n c υ k → Arrives moves t p₀ a₀ σ₀ m₀ q c υ k
+  arrives-come d = record { events = v .events ++ d .events; steps = steps-given-up t (stepsBy moves t) (v .steps) (d .givenUp); makes = makes-append (v .makes) (d .makes) }
 
-module _ (moves : Moves) (t : Tables) (s : Sane t) (x : Search) (w₀ : List ℕ) (m₀ : Counts) (room : used ≤ length w₀) where
-  module _ (w : List ℕ) (i a : ℕ) (m : Counts) (u : Underway moves t x w₀ m₀ w i a m) where
+module _ (moves : Moves) (t : Tables) (s : Sane t) (p₀ : List ℕ) (a₀ : ℕ) (σ₀ : Memory moves) (w₀ : List ℕ) (m₀ : Counts) (room : used ≤ length w₀) where
+  module _ (w : List ℕ) (i a : ℕ) (m : Counts) (u : Underway moves t p₀ a₀ σ₀ w₀ m₀ w i a m) where
     pub long : used ≤ length w
     long = omega (arith, u .only .long)
 
@@ -66,12 +73,32 @@ module _ (moves : Moves) (t : Tables) (s : Sane t) (x : Search) (w₀ : List ℕ
 
       -- ---- forward
       module _ (w′ : List ℕ) (k : Counts) (f : MovesOn moves t w i a m w′ k) where
-        pub forward : Underway moves t x w₀ m₀ w′ (suc i) 0 k
-        forward = record { boat = l; only = only-trans (u .only) (f .only); kept = f .kept; leads = leads-trans (u .leads) (f .leads) }
+        pub forward : Underway moves t p₀ a₀ σ₀ w₀ m₀ w′ (suc i) 0 k
+        forward =
+            record {
+              boat = l;
+              only = only-trans (u .only) (f .only);
+              kept = f .kept;
+              arrives = rw (f .placed) (arrives-step (arrives-come (u .arrives) (f .passes .comes)) (f .passes .steps) (f .passes .makes));
+            }
 
         pub forward-less : stepsLeftOf t (take (suc i) w′) 0 < stepsLeftOf t (take i w) a
-        unfolding choices
-        forward-less = rw (f .placed) (forward-falls t (take i w) a short (f .slot) (f .from) (rw held (f .inside)))
+        forward-less = rw (f .placed) (forward-falls t (take i w) a short (f .slot) (come-le t (stepsBy moves t) (f .passes .comes)) (f .passes .inside))
+
+      -- ---- an allowance runs out
+      pub halted : (w′ : List ℕ) (which : Allowance) (b made : ℕ) (k : Counts) → Halts moves t w i a m w′ which b made k →
+          Ends moves t p₀ a₀ σ₀ w₀ m₀ w′ (Undecided k which (record { boat = i; slot = b; made = made }))
+      halted w′ which b made k h =
+          record {
+            only = only-trans (u .only) (h .only);
+            ends = record {
+              boat = l;
+              kept = h .kept;
+              reached = h .runsOut .reached;
+              arrives = rw (h .same) (arrives-come (u .arrives) (h .runsOut .comes));
+              stops = rw (h .same) (h .runsOut .stops);
+            };
+          }
 
       -- ---- no slot is left
       module _ (v : List ℕ) (k : Counts) (z : NoneLeft moves t w i a m v k) where
@@ -81,20 +108,24 @@ module _ (moves : Moves) (t : Tables) (s : Sane t) (x : Search) (w₀ : List ℕ
         left-held : length (take i v) ≡ i
         left-held = ap length (z .same) ∙ held
 
-        none-left : choices t (length (take i v)) ≤ size (t .sizes) i
-        unfolding choices
-        none-left = rw left-held (omega arith)
+        abbrev last : ℕ
+        last = z .spends .last
 
-        reached : Leads m₀ x k (toComeAt moves t v i (size (t .sizes) i))
-        reached = leads-trans (u .leads) (z .leads)
+        none-left : choices t (length (take i v)) ≤ last
+        none-left = rw (z .same) (z .spends .none)
 
-        pub no-plan : stepsBy moves t .unlabel (memory moves v i) (take i v) ≡ nowhere → cutAt m₀ x ≡ outcome (decided noPlan) (k .checks) (k .trials)
+        reached : Arrives moves t p₀ a₀ σ₀ m₀ (take i v) last (memory moves v i) k
+        reached = rw (z .same) (arrives-come (u .arrives) (z .spends .comes))
+
+        pub no-plan : stepsBy moves t .unlabel (memory moves v i) (take i v) ≡ nowhere → EndsNoPlan moves t p₀ a₀ σ₀ m₀ k
         no-plan e =
-            reached .same
-            ∙ ap (cutAt k) (search-step t (stepsBy moves t) (take i v) (size (t .sizes) i) (memory moves v i))
-            ∙ ap (λ y. cutAt k (onward (searchFrom t (stepsBy moves t)) y))
-            (step-out t (stepsBy moves t) (take i v) (size (t .sizes) i) (memory moves v i) (rw left-held l) none-left e)
-            ∙ ends-at k noPlan (searchFrom t (stepsBy moves t))
+            record {
+              plan = take i v;
+              choice = last;
+              remembered = memory moves v i;
+              arrives = reached;
+              stops = step-out t (stepsBy moves t) (take i v) last (memory moves v i) (rw left-held l) none-left e;
+            }
 
         module _ (w′ : List ℕ) (h : ℕ) (g : GoesBack moves t v i w′ h) where
           back-held : word w′ h ≡ word v h
@@ -116,22 +147,18 @@ module _ (moves : Moves) (t : Tables) (s : Sane t) (x : Search) (w₀ : List ℕ
               let p = placed-of moves t v i (z .kept) h (g .below) in
               rw back-held (omega (arith, p, s .fewSlots h (omega (arith, g .below, l))))
 
-          goes-to : toComeAt moves t v i (size (t .sizes) i) ≡ toComeAt moves t w′ h (suc (word w′ h))
+          goes-to : step t (stepsBy moves t) (take i v) last (memory moves v i) ≡ next [] (take h w′) (suc (word w′ h)) (memory moves w′ h)
           goes-to =
-              search-step t (stepsBy moves t) (take i v) (size (t .sizes) i) (memory moves v i)
-              ∙ ap (onward (searchFrom t (stepsBy moves t)))
-              (step-back t (stepsBy moves t) (take i v) (size (t .sizes) i) (memory moves v i) (rw left-held l) none-left h (memory moves w′ h) (g .goes) (rw left-held (g .below)))
-              ∙ goes-on (searchFrom t (stepsBy moves t)) (take h (take i v)) (suc (getD (take i v) h 0)) (memory moves w′ h)
-              ∙ ap (λ (p : List ℕ). searchFrom t (stepsBy moves t) p (suc (getD (take i v) h 0)) (memory moves w′ h)) back-plan
-              ∙ ap (λ (y : ℕ). searchFrom t (stepsBy moves t) (take h w′) (suc y) (memory moves w′ h)) back-choice
+              rw (← back-plan, ← back-choice)
+              (step-back t (stepsBy moves t) (take i v) last (memory moves v i) (rw left-held l) none-left h (memory moves w′ h) (g .goes) (rw left-held (g .below)))
 
-          pub backward : Underway moves t x w₀ m₀ w′ h (suc (word w′ h)) k
+          pub backward : Underway moves t p₀ a₀ σ₀ w₀ m₀ w′ h (suc (word w′ h)) k
           backward =
               record {
                 boat = omega (arith, g .below, l);
                 only = only-trans (u .only) (only-trans (z .only) (g .only));
                 kept = g .kept;
-                leads = leads-trans reached (leads-eq k _ _ (z .leads .fits) goes-to);
+                arrives = arrives-step reached goes-to (makes-none k (reached .makes .fits));
               }
 
           pub backward-less : stepsLeftOf t (take h w′) (suc (word w′ h)) < stepsLeftOf t (take i w) a
@@ -141,22 +168,11 @@ module _ (moves : Moves) (t : Tables) (s : Sane t) (x : Search) (w₀ : List ℕ
               (subst (λ (y : ℕ). stepsLeftOf t (take h (take i w)) (suc y) < stepsLeftOf t (take i w) a) (ap (λ (p : List ℕ). getD p h 0) (sym (z .same)) ∙ back-choice)
               (return-falls t (take i w) a short h lh))
 
-    -- ---- past the last boat
-    pub whole : boats t ≤ i → cutAt m₀ x ≡ outcome (decided (solved (take i w))) (m .checks) (m .trials)
-    whole past =
-        u .leads .same
-        ∙ ap (cutAt m) (search-step t (stepsBy moves t) (take i w) a (memory moves w i))
-        ∙ ap (λ y. cutAt m (onward (searchFrom t (stepsBy moves t)) y)) (step-end t (stepsBy moves t) (take i w) a (memory moves w i) (rw held past))
-        ∙ ends-at m (solved (take i w)) (searchFrom t (stepsBy moves t))
-
 -- ---- from the beginning: w₀ is cleared to w₁, which made ready is w, from which the walk goes to w′
-pub from-start : (moves : Moves) (t : Tables) (w₀ w₁ w w′ : List ℕ) (m : Counts) (r : Reply) → ChangedOnly 0 used w₀ w₁ → Prepared moves t w₁ w → Walked moves t w 0 0 m w′ r →
+pub from-start : (moves : Moves) (t : Tables) (w₀ w₁ w w′ : List ℕ) (m : Counts) (r : Ended) → ChangedOnly 0 used w₀ w₁ → Prepared moves t w₁ w → Walked moves t w 0 0 m w′ r →
     Searched moves t w₀ m w′ r
-unfolding search
 from-start moves t w₀ w₁ w w′ m r o p e =
     record {
-      meaning = ap (λ (σ : Memory moves). cutAt m (searchFrom t (stepsBy moves t) [] 0 σ)) (sym (p .fresh)) ∙ e .meaning;
       only = only-trans o (only-trans (p .only) (e .only));
-      slots = e .slots;
-      unrefused = e .unrefused;
+      ends = subst (λ (σ : Memory moves). EndsAt moves t [] 0 σ m w′ r) (p .fresh) (e .ends);
     }

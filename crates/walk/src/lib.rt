@@ -6,23 +6,32 @@ ghost use Rattle.problem.specs.Tables.{Tables, tables};
 ghost use Rattle.problem.specs.Sane.{Sane};
 ghost use Rattle.events.specs.Counts.{Fits};
 ghost use Rattle.words.specs.Places.{used};
+ghost use Rattle.walk.specs.declared.Ended.the-variants.{Undecided};
 ghost use Rattle.walk.specs.Walks.{Setting, Walked, Searched};
 use events::Counts;
 use labelling::Labelled;
 use moves::Moves;
 use problem::Allowance;
-use problem::Answer;
-use problem::Reply;
 use visits::Unlabelled;
 
-fn reply(answer: Answer, counts: Counts) -> Reply
-    ensures { λ r. ⌜ r ≡ record { answer = answer; checks = counts .checks; trials = counts .trials } ⌝ }
+// Where a run stands that an allowance ends: the boat and the slot at hand, and how many events of that slot's step are made.
+pub struct Place {
+    pub boat: usize,
+    pub slot: u64,
+    pub made: u64,
+}
+
+// How a walk ends.
+pub enum Ended {
+    Solved(Counts),
+    NoPlan(Counts),
+    Undecided(Counts, Allowance, Place),
+}
+
+fn stopped(which: Allowance, boat: usize, slot: u64, made: u64, counts: Counts) -> Ended
+    ensures { λ r. ⌜ r ≡ Undecided counts which (record { boat = boat; slot = slot; made = made }) ⌝ }
 {
-    Reply {
-        answer,
-        checks: counts.checks,
-        trials: counts.trials,
-    }
+    Ended::Undecided(counts, which, Place { boat, slot, made })
 }
 
 // From any place: a boat, its next slot, and the counts reached.
@@ -35,7 +44,7 @@ pub fn walk(
     from: u64,
     start: Counts,
     work: &mut [u64],
-) -> Reply
+) -> Ended
     ghost { Tables }
     requires { λ t. ⌜ tables (now sizes) (now pairs) (now rows) ≡ t ⌝ }
     requires { λ t. ⌜ Setting moves t (now work) boat start ⌝ }
@@ -58,13 +67,13 @@ pub fn walk(
                     i = h;
                     counts = k;
                 }
-                Unlabelled::NoPlan => return reply(Answer::NoPlan, k),
+                Unlabelled::NoPlan => return Ended::NoPlan(k),
             },
-            Labelled::OutOfChecks(k) => return reply(Answer::Undecided(Allowance::Checks), k),
-            Labelled::OutOfTrials(k) => return reply(Answer::Undecided(Allowance::Trials), k),
+            Labelled::OutOfChecks(k, at, made) => return stopped(Allowance::Checks, i, at, made, k),
+            Labelled::OutOfTrials(k, at) => return stopped(Allowance::Trials, i, at, 0, k),
         }
     }
-    reply(Answer::Solved, counts)
+    Ended::Solved(counts)
 }
 
 // From the beginning. The words are cleared first.
@@ -75,7 +84,7 @@ pub fn search(
     rows: &[u64],
     start: Counts,
     work: &mut [u64],
-) -> Reply
+) -> Ended
     ghost { Tables }
     requires { λ t. ⌜ tables (now sizes) (now pairs) (now rows) ≡ t ⌝ }
     requires { λ t. ⌜ Sane t ⌝ }

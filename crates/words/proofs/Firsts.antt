@@ -44,6 +44,13 @@ module _ (pairs : List ℕ) where
   unfolding firstPair
   first-none i below = lowest-none (listed pairs) (λ k. leb i (lower pairs k)) (λ j lj. lt-leb i _ (below j lj))
 
+  pub first-next : (i : ℕ) → firstPair pairs i ≤ firstPair pairs (suc i)
+  first-next i = by (decLt (firstPair pairs (suc i)) (firstPair pairs i))
+    where
+      by : Dec (firstPair pairs (suc i) < firstPair pairs i) → firstPair pairs i ≤ firstPair pairs (suc i)
+      by (yes y) = absurd (omega (arith, first-below i (firstPair pairs (suc i)) y, first-at (suc i) (omega (arith, first-le i))))
+      by (no n) = omega arith
+
   pub first-zero : firstPair pairs 0 ≡ 0
   first-zero = by (decLt 0 (listed pairs))
     where

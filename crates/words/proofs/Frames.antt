@@ -5,8 +5,9 @@ use mathlib.Core.List.{List}
 use Prim.Native.Nat.{ℕ, _≤_, _<_}
 use native.Mathlib.Omega.{arith}
 use Rattle.problem.specs.Tables.{Tables, boats}
-use Rattle.words.specs.Places.{starts, index, marks, startAt, endAt, rowStartAt, linkAt, indexAt, rowStartsEnd}
-use Rattle.words.specs.Layout.{word, ChangedOnly, Placed, Indexed, Firsts}
+use Rattle.problem.specs.Sane.{Sane}
+use Rattle.words.specs.Places.{starts, rowStartsEnd, lasts, index, alls, marks, startAt, endAt, rowStartAt, linkAt, indexAt, lastAt, prevAt}
+use Rattle.words.specs.Layout.{word, ChangedOnly, Placed, Indexed, Firsts, Chained}
 use Rattle.words.specs.Links.{Linked}
 use Rattle.words.proofs.Triangle.{tri-small}
 use Rattle.words.proofs.Links.{links-stay}
@@ -36,6 +37,13 @@ module _ (t : Tables) (w w′ : List ℕ) where
           pairFrom = λ i li. e (startAt i) (omega arith) (omega arith) ∙ f .pairFrom i li;
           rowFrom = λ i li. e (rowStartAt i) (omega arith) (omega arith) ∙ f .rowFrom i li;
         }
+
+  pub chained-stays : Sane t → Same lasts alls w w′ → Chained t w → Chained t w′
+  chained-stays s e c =
+      record {
+        prev = λ p lp. e (prevAt p) (omega arith) (omega (arith, s .fewPairs)) ∙ c .prev p lp;
+        last = λ j lj. e (lastAt j) (omega arith) (omega (arith, s .fewBoats)) ∙ c .last j lj;
+      }
 
 pub linked-stays : (t : Tables) {w w′ : List ℕ} {a b : ℕ} → ChangedOnly a b w w′ → b ≤ starts → Linked t w → Linked t w′
 linked-stays t o l x =

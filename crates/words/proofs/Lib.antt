@@ -3,6 +3,9 @@ pub mod Triangle
 pub mod ChangedOnly
 pub mod Zeroed
 pub mod Firsts
+pub mod Pairs
+pub mod Lefts
+pub mod Chains
 pub mod Links
 pub mod Rows
 pub mod Indexed

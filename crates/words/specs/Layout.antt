@@ -3,12 +3,12 @@ use mathlib.Core.Path.{_≡_}
 use mathlib.Core.Logic.{_⊎_}
 use mathlib.Core.Bool.{cond}
 use mathlib.Core.List.{List, _++_}
-use Prim.Native.Nat.{ℕ, suc, _≤_, _<_}
+use Prim.Native.Nat.{ℕ, zero, suc, _≤_, _<_}
 use lib.Dec.{leb}
 use lib.ListN.{length, getD, drop, replicate}
 use Rattle.problem.specs.Lowest.{lowest}
-use Rattle.problem.specs.Tables.{Tables, boats, size, listed, lower, place, isListed, start}
-use Rattle.words.specs.Places.{indexAt, startAt, rowStartAt, levelAt}
+use Rattle.problem.specs.Tables.{Tables, boats, size, listed, lower, higher, place, isListed, start}
+use Rattle.words.specs.Places.{indexAt, startAt, rowStartAt, allAt, lastAt, prevAt, liveAt}
 
 abbrev pub word : List ℕ → ℕ → ℕ
 word w k = getD w k 0
@@ -48,5 +48,12 @@ pub record Firsts (t : Tables) (w : List ℕ) : Type 0 where
   pub rowFrom : (i : ℕ) → i < boats t → word w (rowStartAt i) ≡ start (t .sizes) (t .pairs) (firstPair (t .pairs) i)
 
 -- ---- the live words
-abbrev pub liveAt : List ℕ → (level j : ℕ) → ℕ
-liveAt w level j = word w (levelAt level j)
+-- where the slots of boat j stand that the boats below i leave live: at the pair of the last of them that is listed with j; where none is, all slots
+unfoldable pub leftAt : (pairs : List ℕ) → (i j : ℕ) → ℕ
+leftAt pairs zero j = allAt j
+leftAt pairs (suc g) j = cond (isListed pairs g j) (liveAt (place pairs g j)) (leftAt pairs g j)
+
+-- the words say where the live word before each pair stands, and each boat's last
+pub record Chained (t : Tables) (w : List ℕ) : Type 0 where
+  pub prev : (p : ℕ) → p < listed (t .pairs) → word w (prevAt p) ≡ leftAt (t .pairs) (lower (t .pairs) p) (higher (t .pairs) p)
+  pub last : (j : ℕ) → j < boats t → word w (lastAt j) ≡ leftAt (t .pairs) j j

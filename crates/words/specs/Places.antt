@@ -25,17 +25,29 @@ rowStarts = 320
 abbrev pub rowStartsEnd : ℕ
 rowStartsEnd = 384
 
+abbrev pub lasts : ℕ
+lasts = 448
+
 abbrev pub index : ℕ
 index = 512
 
 abbrev pub links : ℕ
 links = 512
 
+abbrev pub prevs : ℕ
+prevs = 512
+
+abbrev pub alls : ℕ
+alls = 4032
+
 abbrev pub marks : ℕ
 marks = 4096
 
-abbrev pub levels : ℕ
-levels = 4096
+abbrev pub lives : ℕ
+lives = 4096
+
+abbrev pub blames : ℕ
+blames = 6112
 
 abbrev pub used : ℕ
 used = 8192
@@ -72,9 +84,22 @@ linkAt q = links + q
 abbrev pub indexAt : (h i : ℕ) → ℕ
 indexAt h i = index + tri i + h
 
--- ---- FC, FC-CBJ: the live slots of boat j before the trial of the boat that the level is named after; and where the next level begins
-abbrev pub levelAt : (level j : ℕ) → ℕ
-levelAt level j = levels + 64 * level + j
+-- ---- FC, FC-CBJ: all slots of boat j
+abbrev pub allAt : (j : ℕ) → ℕ
+allAt j = alls + j
 
-abbrev pub nextLevel : (level : ℕ) → ℕ
-nextLevel level = 4160 + 64 * level
+-- ---- FC, FC-CBJ: where the live slots of boat j stand when its turn comes
+abbrev pub lastAt : (j : ℕ) → ℕ
+lastAt j = lasts + j
+
+-- ---- FC, FC-CBJ: where the live word before pair p stands
+abbrev pub prevAt : (p : ℕ) → ℕ
+prevAt p = prevs + p
+
+-- ---- FC, FC-CBJ: the live word of pair p, the slots of its higher boat still live once its lower boat's trial has passed
+abbrev pub liveAt : (p : ℕ) → ℕ
+liveAt p = lives + p
+
+-- ---- FC-CBJ: the boats to blame for the live word at a place, from `blames` on: first for all slots, which stand just before the live words of pairs. From a live word to the one beside it are 2,080 words, which is `Words::BLAMES` in the code
+abbrev pub blameAt : (place : ℕ) → ℕ
+blameAt place = 2080 + place

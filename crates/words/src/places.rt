@@ -18,15 +18,22 @@ impl Words {
 
     pub const ROW_STARTS: usize = 320;
 
+    pub const LASTS: usize = 448;
+
     pub const INDEX: usize = 512;
 
     pub const LINKS: usize = 512;
 
+    pub const PREVS: usize = 512;
+
+    pub const ALLS: usize = 4032;
+
     pub const MARKS: usize = 4096;
 
-    pub const LEVELS: usize = 4096;
+    pub const LIVES: usize = 4096;
 
-    pub const NEXT_LEVEL: usize = 4160;
+    // From the place of a live word to that of the boats to blame for it.
+    pub const BLAMES: usize = 2080;
 }
 
 // The index row of a boat: its words for the boats below it.

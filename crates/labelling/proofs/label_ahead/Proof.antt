@@ -1,13 +1,14 @@
--- The visit's answer is stored; the level after the next begins as a copy.
+-- The visit's answer is stored; the live words are as it left them.
+use mathlib.Core.Path.{subst}
 use mathlib.Core.List.{List}
 use Prim.Native.Nat.{ℕ}
 use native.Mathlib.Omega.{arith}
-use lib.ListN.{length-set}
 use Rattle.problem.specs.Tables.{Tables, tables}
 use Rattle.methods.specs.ByPlan.{aheadByPlan}
 use Rattle.words.proofs.ChangedOnly.{only-widen}
+use Rattle.looking_ahead.specs.Ahead.{LivesAfter}
 use Rattle.labelling.proofs.Stored.{begun-below}
-use Rattle.labelling.proofs.Labels.{AfterVisit, ahead-checks, ahead-trials, ahead-spent, ahead-passed}
+use Rattle.labelling.proofs.Labels.{AfterVisit, ahead-blaming, ahead-blames, ahead-checks, ahead-trials, ahead-spent, ahead-passed}
 use borrow.Author.Needs.{needs}
 use Rattle.labelling.proofs.label_ahead.Statement.{statement}
 use Rattle.labelling.proofs.label_ahead.Tie as tie
@@ -50,46 +51,55 @@ visit-requires c κs =
     let s = entry b in
     (s .pre .0, (s .pre .1 .words, rw (b .begun-set .ensures) (begun-below (s .args .backward) (W s) (s .args .i) (s .pre .1 .sets))))
 
-enum-known-slot : tie.Need-enum-known-slot
-enum-known-slot c = search needs
+enum-known-k : tie.Need-enum-known-k
+enum-known-k c = search needs
 
 store-passed-requires : tie.Need-store-passed-requires
 store-passed-requires c κs = search needs
 
-add-copy-level : tie.Need-add-copy-level
-add-copy-level c = search needs
-
-copy-level-requires : tie.Need-copy-level-requires
-copy-level-requires c κs =
+blame-requires : tie.Need-blame-requires
+blame-requires c κs =
     let x = c .before .before .before in
-    let v = x .before .before .before .before .before .before .before in
+    let n = x .before .before .before in
+    let v = n .before .before .before .before in
     let s = start v in
-    (omega (arith, s .pre .0 .sane .fewBoats, s .pre .0 .boat), s .pre .0 .sane .fewBoats, rw (x .store-passed .ensures) (simp length-set (omega (arith, s .pre .0 .room, v .visit .ensures .1 .1 .long))))
-
-enum-known-set : tie.Need-enum-known-set
-enum-known-set c = search needs
-
-store-spent-requires : tie.Need-store-spent-requires
-store-spent-requires c κs = search needs
-
-enum-known-k : tie.Need-enum-known-k
-enum-known-k c = search needs
+    let g = n .k .given in
+    rw (x .store-passed .ensures) (
+      ahead-blaming (visited v) (s .pre .1 .words) (v .visit .ensures .1 .1) (g .0 .1 .1 .0) (g .0 .1 .0),
+      ahead-blames (visited v) (s .pre .1 .words) (v .visit .ensures .1 .1) (g .0 .1 .1 .0) (g .0 .1 .0),
+    )
 
 enum-known-k-2 : tie.Need-enum-known-k-2
 enum-known-k-2 c = search needs
+
+store-set-requires : tie.Need-store-set-requires
+store-set-requires c κs = search needs
+
+enum-known-k-3 : tie.Need-enum-known-k-3
+enum-known-k-3 c = search needs
+
+store-set-requires-2 : tie.Need-store-set-requires-2
+store-set-requires-2 c κs = search needs
+
+enum-known-k-4 : tie.Need-enum-known-k-4
+enum-known-k-4 c = search needs
+
+store-set-requires-3 : tie.Need-store-set-requires-3
+store-set-requires-3 c κs = search needs
 
 same-length : tie.Need-same-length
 same-length c = search needs
 
 returns : tie.Need-returns
 returns c =
-    let u = c .before .before in
-    let x = u .before .before .before .before in
+    let y = c .before .before in
+    let x = y .before .before .before .before in
     let n = x .before .before .before in
     let v = n .before .before .before .before in
-    let g = n .slot .given in
-    ahead-passed (visited v) (start v .pre .1 .words) (v .visit .ensures .1 .0) (g .0 .0) (g .0 .1 .0) (g .0 .1 .1 .0) (g .1) (u .copy-level .last .1 .1 .0)
-    (rw (x .store-passed .ensures) at (u .copy-level .ensures .1)) (rw (x .store-passed .ensures) at (u .copy-level .ensures .0))
+    let s = start v in
+    let g = n .k .given in
+    ahead-passed (visited v) (s .pre .1 .words) (v .visit .ensures .1 .1) (g .0 .1 .1 .0) (g .0 .1 .0) (g .0 .0) (g .1)
+    (subst (LivesAfter (T s) (W s) (s .args .i) (after v)) (g .1) (v .visit .ensures .1 .0)) (rw (x .store-passed .ensures) at (y .blame .ensures .1)) (y .blame .ensures .0)
 
 same-length-2 : tie.Need-same-length-2
 same-length-2 c = search needs
@@ -99,26 +109,30 @@ returns-2 c =
     let x = c .before .before in
     let n = x .before .before .before in
     let v = n .before .before .before .before in
-    let g = n .set .given in
-    rw (x .store-spent .ensures) (ahead-spent (visited v) (start v .pre .1 .words) (v .visit .ensures .1 .0) (g .0 .0) (g .0 .1 .0) (g .1))
+    let g = n .k2 .given in
+    rw (x .store-set .ensures) (ahead-spent (visited v) (start v .pre .1 .words) (v .visit .ensures .1 .1) (g .0 .1 .0) (g .0 .0) (g .1))
 
 same-length-3 : tie.Need-same-length-3
 same-length-3 c = search needs
 
 returns-3 : tie.Need-returns-3
 returns-3 c =
-    let v = c .before .before .before .before .before in
-    let g = c .before .k .given in
-    ahead-checks (visited v) (start v .pre .1 .words) (v .visit .ensures .1 .0) (g .0 .0) (g .1)
+    let x = c .before .before in
+    let n = x .before .before .before in
+    let v = n .before .before .before .before in
+    let g = n .k3 .given in
+    rw (x .store-set2 .ensures) (ahead-checks (visited v) (start v .pre .1 .words) (v .visit .ensures .1 .1) (g .0 .1 .1 .0) (g .0 .1 .0) (g .0 .1 .1 .1 .0) (g .0 .0) (g .1))
 
 same-length-4 : tie.Need-same-length-4
 same-length-4 c = search needs
 
 returns-4 : tie.Need-returns-4
 returns-4 c =
-    let v = c .before .before .before .before .before in
-    let g = c .before .k2 .given in
-    ahead-trials (visited v) (start v .pre .1 .words) (v .visit .ensures .1 .0) (g .0 .0) (g .1)
+    let x = c .before .before in
+    let n = x .before .before .before in
+    let v = n .before .before .before .before in
+    let g = n .k4 .given in
+    rw (x .store-set3 .ensures) (ahead-trials (visited v) (start v .pre .1 .words) (v .visit .ensures .1 .1) (g .0 .1 .1 .0) (g .0 .1 .0) (g .0 .0) (g .1))
 
 pub label-ahead-spec : {M : Type 1} → statement M
 label-ahead-spec =
@@ -126,14 +140,15 @@ label-ahead-spec =
     (tie.spec
     begun-set-requires
     visit-requires
-    enum-known-slot
-    store-passed-requires
-    add-copy-level
-    copy-level-requires
-    enum-known-set
-    store-spent-requires
     enum-known-k
+    store-passed-requires
+    blame-requires
     enum-known-k-2
+    store-set-requires
+    enum-known-k-3
+    store-set-requires-2
+    enum-known-k-4
+    store-set-requires-3
     same-length
     returns
     same-length-2

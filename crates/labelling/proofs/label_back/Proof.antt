@@ -45,23 +45,29 @@ visit-requires c κs =
     let s = entry b in
     (s .pre .0, (s .pre .1 .words, rw (b .begun-set .ensures) (begun-below (s .args .backward) (W s) (s .args .i) (s .pre .1 .sets))))
 
-enum-known-slot : tie.Need-enum-known-slot
-enum-known-slot c = search needs
+enum-known-k : tie.Need-enum-known-k
+enum-known-k c = search needs
 
 store-passed-requires : tie.Need-store-passed-requires
 store-passed-requires c κs = search needs
 
-enum-known-set : tie.Need-enum-known-set
-enum-known-set c = search needs
-
-store-spent-requires : tie.Need-store-spent-requires
-store-spent-requires c κs = search needs
-
-enum-known-k : tie.Need-enum-known-k
-enum-known-k c = search needs
-
 enum-known-k-2 : tie.Need-enum-known-k-2
 enum-known-k-2 c = search needs
+
+store-set-requires : tie.Need-store-set-requires
+store-set-requires c κs = search needs
+
+enum-known-k-3 : tie.Need-enum-known-k-3
+enum-known-k-3 c = search needs
+
+store-set-requires-2 : tie.Need-store-set-requires-2
+store-set-requires-2 c κs = search needs
+
+enum-known-k-4 : tie.Need-enum-known-k-4
+enum-known-k-4 c = search needs
+
+store-set-requires-3 : tie.Need-store-set-requires-3
+store-set-requires-3 c κs = search needs
 
 same-length : tie.Need-same-length
 same-length c = search needs
@@ -71,8 +77,8 @@ returns c =
     let x = c .before .before in
     let n = x .before .before .before in
     let v = n .before .before in
-    let g = n .slot .given in
-    rw (x .store-passed .ensures) (back-passed (visited v) (start v .pre .1 .words) (g .0 .0) (g .0 .1 .0) (g .0 .1 .1 .0) (g .1))
+    let g = n .k .given in
+    rw (x .store-passed .ensures) (back-passed (visited v) (start v .pre .1 .words) (g .0 .1 .1 .0) (g .0 .1 .0) (g .0 .0) (g .1))
 
 same-length-2 : tie.Need-same-length-2
 same-length-2 c = search needs
@@ -82,26 +88,30 @@ returns-2 c =
     let x = c .before .before in
     let n = x .before .before .before in
     let v = n .before .before in
-    let g = n .set .given in
-    rw (x .store-spent .ensures) (back-spent (visited v) (start v .pre .1 .words) (g .0 .0) (g .0 .1 .0) (g .1))
+    let g = n .k2 .given in
+    rw (x .store-set .ensures) (back-spent (visited v) (start v .pre .1 .words) (g .0 .1 .0) (g .0 .0) (g .1))
 
 same-length-3 : tie.Need-same-length-3
 same-length-3 c = search needs
 
 returns-3 : tie.Need-returns-3
 returns-3 c =
-    let v = c .before .before .before in
-    let g = c .before .k .given in
-    back-checks (visited v) (start v .pre .1 .words) (g .0 .0) (g .1)
+    let x = c .before .before in
+    let n = x .before .before .before in
+    let v = n .before .before in
+    let g = n .k3 .given in
+    rw (x .store-set2 .ensures) (back-checks (visited v) (start v .pre .1 .words) (g .0 .1 .1 .0) (g .0 .1 .0) (g .0 .1 .1 .1 .0) (g .0 .0) (g .1))
 
 same-length-4 : tie.Need-same-length-4
 same-length-4 c = search needs
 
 returns-4 : tie.Need-returns-4
 returns-4 c =
-    let v = c .before .before .before in
-    let g = c .before .k2 .given in
-    back-trials (visited v) (start v .pre .1 .words) (g .0 .0) (g .1)
+    let x = c .before .before in
+    let n = x .before .before .before in
+    let v = n .before .before in
+    let g = n .k4 .given in
+    rw (x .store-set3 .ensures) (back-trials (visited v) (start v .pre .1 .words) (g .0 .1 .1 .0) (g .0 .1 .0) (g .0 .0) (g .1))
 
 pub label-back-spec : {M : Type 1} → statement M
 label-back-spec =
@@ -109,12 +119,14 @@ label-back-spec =
     (tie.spec
     begun-set-requires
     visit-requires
-    enum-known-slot
-    store-passed-requires
-    enum-known-set
-    store-spent-requires
     enum-known-k
+    store-passed-requires
     enum-known-k-2
+    store-set-requires
+    enum-known-k-3
+    store-set-requires-2
+    enum-known-k-4
+    store-set-requires-3
     same-length
     returns
     same-length-2

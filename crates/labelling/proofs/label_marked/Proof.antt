@@ -36,8 +36,8 @@ visited v =
 visit-requires : tie.Need-visit-requires
 visit-requires c κs = search needs
 
-enum-known-slot : tie.Need-enum-known-slot
-enum-known-slot c = search needs
+enum-known-k : tie.Need-enum-known-k
+enum-known-k c = search needs
 
 mul-work : tie.Need-mul-work
 mul-work c = search needs
@@ -45,14 +45,14 @@ mul-work c = search needs
 slice-write-work : tie.Need-slice-write-work
 slice-write-work c = search needs
 
-enum-known-k : tie.Need-enum-known-k
-enum-known-k c = search needs
-
 enum-known-k-2 : tie.Need-enum-known-k-2
 enum-known-k-2 c = search needs
 
 enum-known-k-3 : tie.Need-enum-known-k-3
 enum-known-k-3 c = search needs
+
+enum-known-k-4 : tie.Need-enum-known-k-4
+enum-known-k-4 c = search needs
 
 same-length : tie.Need-same-length
 same-length c = search needs
@@ -60,8 +60,8 @@ same-length c = search needs
 returns : tie.Need-returns
 returns c =
     let n = c .before in
-    let g = n .slot .given in
-    marked-passed (visited (n .before .before .before .before)) (g .0 .0) (g .0 .1 .0) (g .0 .1 .1 .0) (g .1)
+    let g = n .k .given in
+    marked-passed (visited (n .before .before .before .before)) (g .0 .1 .1 .0) (g .0 .1 .0) (g .0 .0) (g .1)
 
 same-length-2 : tie.Need-same-length-2
 same-length-2 c = search needs
@@ -69,8 +69,8 @@ same-length-2 c = search needs
 returns-2 : tie.Need-returns-2
 returns-2 c =
     let n = c .before in
-    let g = n .k .given in
-    marked-spent (visited (n .before .before .before .before)) (g .0 .0) (g .0 .1 .0) (g .1)
+    let g = n .k2 .given in
+    marked-spent (visited (n .before .before .before .before)) (g .0 .1 .0) (g .0 .0) (g .1)
 
 same-length-3 : tie.Need-same-length-3
 same-length-3 c = search needs
@@ -78,8 +78,8 @@ same-length-3 c = search needs
 returns-3 : tie.Need-returns-3
 returns-3 c =
     let n = c .before in
-    let g = n .k2 .given in
-    marked-checks (visited (n .before .before .before .before)) (g .0 .0) (g .1)
+    let g = n .k3 .given in
+    marked-checks (visited (n .before .before .before .before)) (g .0 .1 .1 .0) (g .0 .1 .0) (g .0 .1 .1 .1 .0) (g .0 .0) (g .1)
 
 same-length-4 : tie.Need-same-length-4
 same-length-4 c = search needs
@@ -87,20 +87,20 @@ same-length-4 c = search needs
 returns-4 : tie.Need-returns-4
 returns-4 c =
     let n = c .before in
-    let g = n .k3 .given in
-    marked-trials (visited (n .before .before .before .before)) (g .0 .0) (g .1)
+    let g = n .k4 .given in
+    marked-trials (visited (n .before .before .before .before)) (g .0 .1 .1 .0) (g .0 .1 .0) (g .0 .0) (g .1)
 
 pub label-marked-spec : {M : Type 1} → statement M
 label-marked-spec =
     tie.close
     (tie.spec
     visit-requires
-    enum-known-slot
+    enum-known-k
     mul-work
     slice-write-work
-    enum-known-k
     enum-known-k-2
     enum-known-k-3
+    enum-known-k-4
     same-length
     returns
     same-length-2

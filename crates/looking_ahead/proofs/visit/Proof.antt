@@ -1,38 +1,41 @@
--- Each slot passed leads on to the next one; the words of the lower levels stay as they were.
+-- Each slot that fails, or is dead, is given up; the words that the boats below left stay as they were.
+use mathlib.Core.Path.{_≡_, sym, ap, _∙_, subst}
+use mathlib.Core.Bool.{true}
 use mathlib.Core.List.{List}
-use mathlib.Core.Logic.{inl, inr}
+use mathlib.Core.Logic.{⊎-elim}
 use Prim.Native.Nat.{ℕ, _+_, _-_, _^_, _≤_, _<_}
 use borrow.Author.Needs.{needs}
 use native.Mathlib.Omega.{arith}
 use lib.Bits.{or-lt}
-use Rattle.problem.specs.Tables.{Tables, tables, size}
-use Rattle.events.specs.Events.{Search}
-use Rattle.events.specs.Counts.{Leads}
-use Rattle.events.proofs.Leading.{leads-refl}
-use Rattle.methods.specs.ByPlan.{aheadByPlan}
-use Rattle.visits.specs.Visits.{toCome}
+use lib.ListN.{length}
+use Rattle.problem.specs.Tables.{Tables, tables, size, bit}
+use Rattle.events.specs.declared.Counts.{Counts}
+use Rattle.words.specs.Layout.{word, leftAt}
 use Rattle.words.proofs.ChangedOnly.{only-refl}
-use Rattle.looking_ahead.proofs.Ahead.{Kept, Ready, dead-to, kept-lives, kept-now, kept-firsts, visit-spent, AtSlot, passed-over, trial-made, no-trial, AfterSweep, kept-after, swept-clear, clear-lives, swept-out, emptied-boat, emptied-steps, emptied-jumps}
+use Rattle.words.proofs.Chains.{last-before}
+use Rattle.visits.proofs.Ends.{come-here}
+use Rattle.live_words.specs.Lives.{leftWord}
+use Rattle.looking_ahead.proofs.Ahead.{Ready, Reached, sweepable, Comes, DueAt, due-next, none-due, trial-made, no-trial, AfterSweep, kept-after, swept-clear, clear-lives, swept-out, out-rises, out-few, is-pair, before-few, emptied-steps, emptied-jumps}
 use Rattle.looking_ahead.proofs.visit.Statement.{statement}
 use Rattle.looking_ahead.proofs.visit.Tie as tie
 
 abbrev Inv-loop : tie.InvT-loop
-Inv-loop backward sizes pairs rows i from with work₀ size live slot₀ set₀ counts₀ work slot set counts =
+Inv-loop backward sizes pairs rows i from with work₀ live own size slot₀ set₀ counts₀ work slot set counts =
     let t = tables sizes pairs rows in
-    Kept t work₀ i work
-    × (set < 2 ^ i)
-    × (slot₀ ≤ slot)
-    × Leads counts₀ (toCome t (aheadByPlan t) backward work₀ i slot₀ set₀) counts (toCome t (aheadByPlan t) backward work₀ i slot set)
+    Reached t work₀ i work × (set < 2 ^ i) × DueAt t work₀ i backward from with counts₀ slot set counts × (slot < 64 → bit (leftWord t work₀ i i) slot ≡ true)
 
 abbrev μ-loop : tie.MeasureT-loop
-μ-loop backward sizes pairs rows i from with work₀ size live slot₀ set₀ counts₀ work slot set counts = size - slot
+μ-loop backward sizes pairs rows i from with work₀ live own size slot₀ set₀ counts₀ work slot set counts = size - slot
 
--- THE PLACES: the function's entry, seen from the first place that the code reaches and from the head of the loop; its tables and its words
-abbrev entry : tie.After-size-of Inv-loop μ-loop → tie.Start Inv-loop μ-loop
-entry c = c .before .before .before .before .before
+-- THE PLACES: the function's entry, seen from where the boat's live word is read and from the head of the loop; its tables and its words
+abbrev entry : tie.After-slice-known3 Inv-loop μ-loop → tie.Start Inv-loop μ-loop
+entry c = c .before .before .before .before .before .before
+
+abbrev read : tie.At-loop Inv-loop μ-loop → tie.After-own-pairs Inv-loop μ-loop
+read l = l .before .before
 
 abbrev S : tie.At-loop Inv-loop μ-loop → tie.Start Inv-loop μ-loop
-S l = entry (l .before .before)
+S l = entry (read l .before .before)
 
 abbrev T : tie.Start Inv-loop μ-loop → Tables
 T s = tables (s .args .sizes .now) (s .args .pairs .now) (s .args .rows .now)
@@ -40,67 +43,117 @@ T s = tables (s .args .sizes .now) (s .args .pairs .now) (s .args .rows .now)
 abbrev W : tie.Start Inv-loop μ-loop → List ℕ
 W s = s .args .work .now
 
-abbrev begin : tie.Start Inv-loop μ-loop → Search
-begin s = toCome (T s) (aheadByPlan (T s)) (s .args .backward) (W s) (s .args .i) (s .args .from) (s .args .with)
+abbrev I : tie.Start Inv-loop μ-loop → ℕ
+I s = s .args .i
 
-in-size : (c : tie.In-loop Inv-loop μ-loop) → c .before .loop .slot < size (T (S (c .before)) .sizes) (S (c .before) .args .i)
-in-size c = omega (arith, c .loop-test .taken, c .before .before .before .size-of .ensures .0)
+-- the slots up to one are given up, from the entry on
+abbrev Came : tie.Start Inv-loop μ-loop → (a set : ℕ) → Counts → Type 0
+Came s a set k = Comes (T s) (W s) (I s) (s .args .backward) (s .args .from) (s .args .with) (s .args .start) a set k
 
-ready : (s : tie.Start Inv-loop μ-loop) → Ready (T s) (W s) (s .args .i)
-ready s = record { sane = s .pre .0 .sane; boat = s .pre .0 .boat; words = s .pre .0 .room; lives = s .pre .1 .0 .lives }
+in-size : (c : tie.In-loop Inv-loop μ-loop) → c .before .loop .slot < size (T (S (c .before)) .sizes) (I (S (c .before)))
+in-size c = omega (arith, c .loop-test .taken, read (c .before) .own-pairs .ensures .slots)
 
--- at a slot, once its bit has been looked at
-at : (c : tie.After-bit Inv-loop μ-loop) →
-    let s = S (c .before .before) in
-    let l = c .before .before .loop in
-    AtSlot (T s) (W s) (s .args .i) (s .args .backward) (l .slot) (l .set) (c .bit .result) (s .args .start) (begin s) (l .counts)
-at c = record { ready = ready (S (c .before .before)); slot = in-size (c .before); bitIs = c .bit .ensures; leads = c .before .before .loop .inv .3 }
+few : (c : tie.In-loop Inv-loop μ-loop) → c .before .loop .slot < 64
+few c = let s = S (c .before) in omega (arith, in-size c, s .pre .0 .sane .fewSlots (I s) (s .pre .0 .boat))
+
+ready : (s : tie.Start Inv-loop μ-loop) → Ready (s .args .backward) (T s) (W s) (I s)
+ready s = record { sane = s .pre .0 .sane; boat = s .pre .0 .boat; room = s .pre .0 .room; kept = s .pre .1 .0 }
+
+-- the place of the boat's live word
+stands : (s : tie.Start Inv-loop μ-loop) → word (W s) (448 + I s) ≡ leftAt (T s .pairs) (I s) (I s)
+stands s = s .pre .1 .0 .chained .last (I s) (s .pre .0 .boat)
+
+among : (s : tie.Start Inv-loop μ-loop) → word (W s) (448 + I s) < 8192
+among s = omega (arith, last-before (T s) (s .pre .0 .sane) (s .pre .1 .0 .chained) (I s) (s .pre .0 .boat), s .pre .0 .sane .fewPairs)
+
+is-live-word : (s : tie.Start Inv-loop μ-loop) → word (W s) (word (W s) (448 + I s)) ≡ leftWord (T s) (W s) (I s) (I s)
+is-live-word s = ap (word (W s)) (stands s)
+
+-- at a slot
+came : (c : tie.In-loop Inv-loop μ-loop) → let l = c .before in Came (S l) (l .loop .slot) (l .loop .set) (l .loop .counts)
+came c =
+    let l = c .before in
+    let d = l .loop .inv .2 in
+    subst (λ (a : ℕ). Came (S l) a (l .loop .set) (l .loop .counts)) (d .here (in-size c)) (d .comes)
+
+is-live : (c : tie.In-loop Inv-loop μ-loop) → let l = c .before in bit (leftWord (T (S l)) (W (S l)) (I (S l)) (I (S l))) (l .loop .slot) ≡ true
+is-live c = c .before .loop .inv .3 (few c)
 
 -- after a sweep: the place before its trial, and its words
-abbrev tested : tie.After-sweep Inv-loop μ-loop → tie.After-bit Inv-loop μ-loop
-tested c = c .before .before .before .before .before .before .before
+abbrev turn : tie.After-sweep Inv-loop μ-loop → tie.In-loop Inv-loop μ-loop
+turn c = c .before .before .before .before .before .before
+
+abbrev head : tie.After-sweep Inv-loop μ-loop → tie.At-loop Inv-loop μ-loop
+head c = turn c .before
 
 abbrev after : tie.After-sweep Inv-loop μ-loop → List ℕ
-after c = c .sweep .last .1 .1 .1 .1 .1 .1 .0
+after c = c .sweep .last .1 .1 .1 .1 .1 .1 .1 .0
 
 swept : (c : tie.After-sweep Inv-loop μ-loop) →
-    let s = S (tested c .before .before) in
-    let l = tested c .before .before .loop in
-    AfterSweep (T s) (W s) (s .args .i) (s .args .backward) (l .slot) (l .set) (s .args .start) (begin s) (c .before .before .before .k .given .0 .0) (l .work) (after c) (c .sweep .result)
+    let l = head c in
+    let s = S l in
+    AfterSweep (T s) (W s) (I s) (s .args .backward) (s .args .from) (s .args .with) (s .args .start) (l .loop .slot) (l .loop .set) (l .loop .counts)
+    (c .before .before .before .k .given .0 .0) (l .loop .work) (after c) (c .sweep .result)
 swept c =
+    let d = turn c in
+    let l = head c in
+    let s = S l in
     record {
-      ready = ready (S (tested c .before .before));
-      leads = trial-made (at (tested c)) (c .before .before .before .before .before .before .if1 .taken) (c .before .before .before .before .before .trial .ensures) (c .before .before .before .k .given .1);
-      kept = tested c .before .before .loop .inv .0;
+      ready = ready s;
+      slot = in-size d;
+      live = is-live d;
+      comes = came d;
+      counted = trial-made (ready s) (s .args .from) (s .args .with) (s .args .start) _ (l .loop .set) (in-size d) (is-live d) (came d)
+          (c .before .before .before .before .before .trial .ensures) (c .before .before .before .k .given .1);
+      kept = l .loop .inv .0;
       sweeps = c .sweep .ensures .0;
-      only = c .sweep .ensures .1 .1;
-      copied = c .sweep .ensures .1 .0;
+      only = c .sweep .ensures .1;
     }
 
-size-of-requires : tie.Need-size-of-requires Inv-loop μ-loop
-size-of-requires c κs = search needs
+-- a boat was emptied: the pair's number is small, and so is the place of the live word before
+emptied : (c : tie.After-k4 Inv-loop μ-loop) → c .k4 .given .0 .1 .0 < 2016
+emptied c =
+    let w = c .before .before .before .before in
+    omega (arith, is-pair (swept w) (c .k4 .given .1), S (head w) .pre .0 .sane .fewPairs)
 
-mul-live : tie.Need-mul-live Inv-loop μ-loop
-mul-live c = search needs
+before-small : (c : tie.After-k4 Inv-loop μ-loop) → let w = c .before .before .before .before in word (after w) (512 + c .k4 .given .0 .1 .0) < 6112
+before-small c =
+    let w = c .before .before .before .before in
+    omega (arith, before-few (swept w) (c .k4 .given .1), S (head w) .pre .0 .sane .fewPairs)
+
+long : (w : tie.After-sweep Inv-loop μ-loop) → 8192 ≤ length (after w)
+long w = omega (arith, kept-after (swept w) .long, S (head w) .pre .0 .room)
 
 add-live : tie.Need-add-live Inv-loop μ-loop
 add-live c = search needs
 
-mul-live-2 : tie.Need-mul-live-2 Inv-loop μ-loop
-mul-live-2 c = search needs
+mul-live : tie.Need-mul-live Inv-loop μ-loop
+mul-live c = search needs
 
 slice-read-live : tie.Need-slice-read-live Inv-loop μ-loop
 slice-read-live c = search needs
 
+mul-live-2 : tie.Need-mul-live-2 Inv-loop μ-loop
+mul-live-2 c = omega (arith, among (c .before .before .before .before .before))
+
+slice-read-live-2 : tie.Need-slice-read-live-2 Inv-loop μ-loop
+slice-read-live-2 c = let s = entry c in omega (arith, among s, s .pre .0 .room)
+
+own-pairs-requires : tie.Need-own-pairs-requires Inv-loop μ-loop
+own-pairs-requires c κs = let s = entry (c .before) in ((s .pre .0 .boat, s .pre .0 .sane .fewBoats, s .pre .0 .room), s .pre .1 .0 .firsts)
+
+next-live-requires : tie.Need-next-live-requires Inv-loop μ-loop
+next-live-requires c κs = search needs
+
 loop-holds : tie.Need-loop-holds Inv-loop μ-loop
 loop-holds c =
-    let s = entry (c .before) in
-    (record { only = only-refl _ _ _; copied = s .pre .1 .0 .copied (s .pre .0 .boat) }, s .pre .1 .1, omega arith, leads-refl _ _ (s .pre .0 .fits))
-
-bit-requires : tie.Need-bit-requires Inv-loop μ-loop
-bit-requires c κs =
-    let s = S (c .before) in
-    omega (arith, in-size c, s .pre .0 .sane .fewSlots (s .args .i) (s .pre .0 .boat))
+    let s = entry (c .before .before .before) in
+    let n = c .next-live .ensures in (
+      only-refl _ _ _,
+      s .pre .1 .1,
+      due-next (ready s) (s .args .from) (s .args .with) (s .args .start) (s .args .from) _ _ _ (is-live-word s) n (come-here (T s) _ (s .pre .0 .fits)),
+      (λ l. sym (ap (λ (v : ℕ). bit v (c .next-live .result)) (is-live-word s)) ∙ n .alive l),
+    )
 
 trial-requires : tie.Need-trial-requires Inv-loop μ-loop
 trial-requires c κs = search needs
@@ -112,49 +165,49 @@ enum-known-k-2 : tie.Need-enum-known-k-2 Inv-loop μ-loop
 enum-known-k-2 c = search needs
 
 same-length : tie.Need-same-length Inv-loop μ-loop
-same-length c = c .before .before .before .before .before .before .before .loop .inv .0 .only .long
+same-length c = c .before .before .before .before .before .loop .inv .0 .long
 
 returns : tie.Need-returns Inv-loop μ-loop
 returns c =
-    let b = c .before .before .before .before .before in (
-      no-trial (at b) (c .before .before .before .before .if1 .taken) (c .before .before .before .trial .ensures) (c .before .k2 .given .1),
-      (tt, b .before .before .loop .inv .0 .only),
+    let d = c .before .before .before .before in
+    let l = d .before in
+    let s = S l in (
+      record {
+        below = l .loop .inv .1;
+        ends = no-trial (ready s) (s .args .from) (s .args .with) (s .args .start) _ (l .loop .set) (in-size d) (is-live d) (came d) (c .before .before .before .trial .ensures)
+            (c .before .k2 .given .1);
+      },
+      (tt, l .loop .inv .0),
     )
 
 sweep-requires : tie.Need-sweep-requires Inv-loop μ-loop
 sweep-requires c κs =
-    let b = c .before .before .before .before .before .before in
-    let l = b .before .before .loop in
-    let s = S (b .before .before) in
-    let h = trial-made (at b) (c .before .before .before .before .before .if1 .taken) (c .before .before .before .before .trial .ensures) (c .before .before .k .given .1) in (
-      record {
-        sane = s .pre .0 .sane;
-        boat = s .pre .0 .boat;
-        slot = in-size (b .before);
-        room = omega (arith, l .inv .0 .only .long, s .pre .0 .room);
-        firsts = kept-firsts (ready s) (l .inv .0) (s .pre .1 .0 .firsts);
-        lives = kept-now (ready s) (l .inv .0);
-        copied = l .inv .0 .copied;
-      },
-      h .fits,
+    let d = c .before .before .before .before .before in
+    let l = d .before in
+    let s = S l in (
+      sweepable (ready s) (l .loop .inv .0) (l .loop .slot) (in-size d),
+      (
+        read l .own-pairs .ensures,
+        trial-made (ready s) (s .args .from) (s .args .with) (s .args .start) _ (l .loop .set) (in-size d) (is-live d) (came d) (c .before .before .before .before .trial .ensures)
+            (c .before .before .k .given .1) .fits,
+      ),
     )
 
 enum-known-k-3 : tie.Need-enum-known-k-3 Inv-loop μ-loop
 enum-known-k-3 c = search needs
 
 same-length-2 : tie.Need-same-length-2 Inv-loop μ-loop
-same-length-2 c = kept-after (swept (c .before .before .before .before .before)) .only .long
+same-length-2 c = kept-after (swept (c .before .before .before .before .before)) .long
 
 returns-2 : tie.Need-returns-2 Inv-loop μ-loop
 returns-2 c =
-    let w = c .before .before .before .before .before in
-    let l = tested w .before .before .loop in (
-      record { from = l .inv .2; inside = in-size (tested w .before); below = l .inv .1; leads = swept-clear (swept w) (c .before .k3 .given .1) },
-      ((clear-lives (swept w) (c .before .k3 .given .1), w .sweep .ensures .1 .0), kept-after (swept w) .only),
+    let w = c .before .before .before .before .before in (
+      record { below = head w .loop .inv .1; ends = swept-clear (swept w) (c .before .k3 .given .1) },
+      (clear-lives (swept w) (c .before .k3 .given .1), kept-after (swept w)),
     )
 
-enum-known-j : tie.Need-enum-known-j Inv-loop μ-loop
-enum-known-j c = search needs
+enum-known-k-4 : tie.Need-enum-known-k-4 Inv-loop μ-loop
+enum-known-k-4 c = search needs
 
 enum-told : tie.Need-enum-told Inv-loop μ-loop
 enum-told c = search needs
@@ -162,87 +215,101 @@ enum-told c = search needs
 enum-told-2 : tie.Need-enum-told-2 Inv-loop μ-loop
 enum-told-2 c = search needs
 
-blamers-requires : tie.Need-blamers-requires Inv-loop μ-loop
-blamers-requires c κs =
-    let w = c .before .before .before .before .before .before .before .before in
-    let s = S (tested w .before .before) in (
-      omega (arith, s .pre .0 .sane .fewBoats, s .pre .0 .boat),
-      omega (arith, s .pre .0 .sane .fewBoats, emptied-boat (swept w) (c .before .before .before .before .j .given .1)),
-      omega (arith, kept-after (swept w) .only .long, s .pre .0 .room),
-    )
+add-before : tie.Need-add-before Inv-loop μ-loop
+add-before c = omega (arith, emptied (c .before .before .before))
 
-enum-known-k-4 : tie.Need-enum-known-k-4 Inv-loop μ-loop
-enum-known-k-4 c = search needs
+mul-before : tie.Need-mul-before Inv-loop μ-loop
+mul-before c = omega (arith, emptied (c .before .before .before))
+
+slice-read-before : tie.Need-slice-read-before Inv-loop μ-loop
+slice-read-before c = let p = c .before .before .before .before in omega (arith, emptied p, long (p .before .before .before .before))
+
+add-set : tie.Need-add-set Inv-loop μ-loop
+add-set c = omega (arith, before-small (c .before .before .before .before))
+
+mul-set : tie.Need-mul-set Inv-loop μ-loop
+mul-set c = omega (arith, before-small (c .before .before .before .before))
+
+slice-read-set : tie.Need-slice-read-set Inv-loop μ-loop
+slice-read-set c =
+    let p = c .before .before .before .before .before in
+    omega (arith, before-small p, long (p .before .before .before .before))
+
+enum-known-k-5 : tie.Need-enum-known-k-5 Inv-loop μ-loop
+enum-known-k-5 c = search needs
+
+sub-made : tie.Need-sub-made Inv-loop μ-loop
+sub-made c = let w = c .before .before .before .before .before .before .before in out-rises (swept w) (c .before .before .before .k5 .given .1)
+
+add-made : tie.Need-add-made Inv-loop μ-loop
+add-made c =
+    let w = c .before .before .before .before .before .before .before in
+    omega (arith, out-few (swept w) (c .before .before .before .k5 .given .1))
 
 same-length-3 : tie.Need-same-length-3 Inv-loop μ-loop
-same-length-3 c = kept-after (swept (c .before .before .before .before .before)) .only .long
+same-length-3 c = kept-after (swept (c .before .before .before .before .before .before .before)) .long
 
 returns-3 : tie.Need-returns-3 Inv-loop μ-loop
 returns-3 c =
-    let w = c .before .before .before .before .before in
-    (swept-out (swept w) (c .before .k4 .given .1), (tt, kept-after (swept w) .only))
+    let w = c .before .before .before .before .before .before .before in (
+      record { below = head w .loop .inv .1; ends = swept-out (swept w) (c .before .before .before .k5 .given .1) },
+      (tt, kept-after (swept w)),
+    )
 
 -- the next slot is due, before the dead ones are passed over
-due : (c : tie.Joined1 Inv-loop μ-loop) →
-    let b = c .before in
-    let s = S (b .before .before) in
-    Kept (T s) (W s) (s .args .i) (c .if1 .work)
-    × (c .if1 .set < 2 ^ s .args .i)
-    × Leads (s .args .start) (begin s) (c .if1 .counts) (toCome (T s) (aheadByPlan (T s)) (s .args .backward) (W s) (s .args .i) (b .before .before .loop .slot + 1) (c .if1 .set))
+abbrev behind : tie.At-match3-came Inv-loop μ-loop → tie.After-sweep Inv-loop μ-loop
+behind c = c .before .before .before .before .before .before
+
+abbrev Due : tie.At-match3-came Inv-loop μ-loop → (set : ℕ) → Type 0
+Due c set = let l = head (behind c) in (set < 2 ^ I (S l)) × Came (S l) (l .loop .slot + 1) set (c .before .before .k4 .given .0 .0)
+
+due : (c : tie.At-match3-came Inv-loop μ-loop) → Due c (c .match3 .set)
 due c =
-    let b = c .before in
-    let l = b .before .before .loop in
-    elim (c .if1 .came) [
-      | inl z ↦
-          let x : tie.After-known-told Inv-loop μ-loop =
-          record { before = record { before = record { before = record { before = record { before = b; if1 = z .0 }; trial = z .1 }; match = z .2 }; k = z .3 }; known-told = z .4 } in
-          let w : tie.After-sweep Inv-loop μ-loop = record { before = record { before = x; sweep-arg = z .5 }; sweep = z .6 } in
-          rw (z .14, z .15, z .16) (kept-after (swept w), l .inv .1, emptied-steps (swept w) (z .10 .given .1) (z .13 .given .1))
-      | inr (inl z) ↦
-          let x : tie.After-known-told Inv-loop μ-loop =
-          record { before = record { before = record { before = record { before = record { before = b; if1 = z .0 }; trial = z .1 }; match = z .2 }; k = z .3 }; known-told = z .4 } in
-          let w : tie.After-sweep Inv-loop μ-loop = record { before = record { before = x; sweep-arg = z .5 }; sweep = z .6 } in
-          rw (z .16, z .17, z .18) (
-            kept-after (swept w),
-            or-lt (S (b .before .before) .args .i) _ _ (l .inv .1) (z .15 .ensures .below),
-            emptied-jumps (swept w) (z .10 .given .1) (λ n. z .8 .given n .fits) (z .15 .ensures),
-          )
-      | inr (inr z) ↦ rw (z .1, z .2, z .3) (l .inv .0, l .inv .1, passed-over (at b) (z .0 .left))
-    ]
+    let w = behind c in
+    let l = head w in
+    let e = c .before .before .k4 .given .1 in
+    ⊎-elim
+    (λ z. subst (Due c) (sym (z .2)) (l .loop .inv .1, emptied-steps (swept w) e (z .1 .given .1)))
+    (λ z.
+    let d = emptied-jumps (swept w) e (z .1 .given .1) (λ n. c .before .before .before .before .slice-known4 .given n .fits) in
+    subst (Due c) (sym (z .4)) (or-lt (I (S l)) _ _ (l .loop .inv .1) (d .0), d .1))
+    (c .match3 .came)
 
 add-next-live : tie.Need-add-next-live Inv-loop μ-loop
-add-next-live c = search needs
+add-next-live c = omega (arith, few (turn (behind c)))
 
-next-live-requires : tie.Need-next-live-requires Inv-loop μ-loop
-next-live-requires c κs =
-    let b = c .before in
-    let s = S (b .before .before) in
-    omega (arith, in-size (b .before), s .pre .0 .sane .fewSlots (s .args .i) (s .pre .0 .boat))
+next-live-requires-2 : tie.Need-next-live-requires-2 Inv-loop μ-loop
+next-live-requires-2 c κs = search needs
 
 loop-less : tie.Need-loop-less Inv-loop μ-loop
-loop-less c = omega (arith, c .next-live .ensures .0, c .before .before .before .loop-test .taken)
+loop-less c = omega (arith, c .next-live2 .ensures .onward, turn (behind (c .before)) .loop-test .taken)
 
 loop-again : tie.Need-loop-again Inv-loop μ-loop
 loop-again c =
-    let b = c .before .before in
-    let l = b .before .before .loop in
-    let s = S (b .before .before) in
+    let w = behind (c .before) in
+    let l = head w in
+    let s = S l in
     let d = due (c .before) in
-    let n = c .next-live .ensures in
-    (d .0, d .1, omega (arith, l .inv .2, n .0), dead-to (ready s) (s .args .backward) (l .slot + 1) _ _ (n .0) (n .2) (d .2))
+    let n = c .next-live2 .ensures in (
+      kept-after (swept w),
+      d .0,
+      due-next (ready s) (s .args .from) (s .args .with) (s .args .start) (l .loop .slot + 1) _ _ _ (is-live-word s) n (d .1),
+      (λ k. sym (ap (λ (v : ℕ). bit v (c .next-live2 .result)) (is-live-word s)) ∙ n .alive k),
+    )
 
 same-length-4 : tie.Need-same-length-4 Inv-loop μ-loop
-same-length-4 c = c .before .loop .inv .0 .only .long
+same-length-4 c = c .before .loop .inv .0 .long
 
 returns-4 : tie.Need-returns-4 Inv-loop μ-loop
 returns-4 c =
-    let l = c .before .loop in
-    let s = S (c .before) in (
+    let l = c .before in
+    let s = S l in (
       record {
-        below = l .inv .1;
-        leads = visit-spent (ready s) (s .args .backward) (l .slot) (l .set) (l .inv .3) (omega (arith, c .loop-test .left, c .before .before .before .size-of .ensures .0));
+        below = l .loop .inv .1;
+        ends = none-due (ready s) (s .args .from) (s .args .with) (s .args .start) (l .loop .slot) (l .loop .set)
+            (omega (arith, c .loop-test .left, read l .own-pairs .ensures .slots)) (l .loop .inv .2);
       },
-      ((kept-lives (ready s) (l .inv .0), l .inv .0 .copied), l .inv .0 .only),
+      (tt, l .loop .inv .0),
     )
 
 pub visit-spec : {M : Type 1} → statement M
@@ -251,13 +318,14 @@ visit-spec =
     (tie.spec
     Inv-loop
     μ-loop
-    size-of-requires
-    mul-live
     add-live
-    mul-live-2
+    mul-live
     slice-read-live
+    mul-live-2
+    slice-read-live-2
+    own-pairs-requires
+    next-live-requires
     loop-holds
-    bit-requires
     trial-requires
     enum-known-k
     enum-known-k-2
@@ -267,15 +335,22 @@ visit-spec =
     enum-known-k-3
     same-length-2
     returns-2
-    enum-known-j
+    enum-known-k-4
     enum-told
     enum-told-2
-    blamers-requires
-    enum-known-k-4
+    add-before
+    mul-before
+    slice-read-before
+    add-set
+    mul-set
+    slice-read-set
+    enum-known-k-5
+    sub-made
+    add-made
     same-length-3
     returns-3
     add-next-live
-    next-live-requires
+    next-live-requires-2
     loop-less
     loop-again
     same-length-4

@@ -1,50 +1,54 @@
--- Two loops: at each place both keep that what was to come at the entry leads to what is to come there.
+-- Two loops: the slots given up from the entry on, and the looks of the slot at hand.
 use mathlib.Core.Path.{_≡_, sym, ap, _∙_}
 use mathlib.Core.Bool.{Bool}
-use mathlib.Core.List.{List}
+use mathlib.Core.List.{List, [], _∷_}
 use mathlib.Core.Logic.{⊎-elim}
-use mathlib.Core.Option.{Option}
+use mathlib.Core.Option.{none, some}
 use Prim.Native.Nat.{ℕ, _+_, _-_, _/_, _%_, _^_, _≤_, _<_}
 use borrow.Author.Needs.{needs}
 use native.Mathlib.Nat.{le-refl}
 use native.Mathlib.Numerals.{add-one}
 use native.Mathlib.Omega.{arith}
-use lib.ListN.{length, getD}
+use lib.ListN.{length, getD, take}
+use lib.Seq.{length-take-le}
 use Rattle.problem.specs.Tables.{Tables, tables, boats, size, place, isListed, start, bit}
+use Rattle.problem.specs.declared.Allowance.{Allowance}
+use Rattle.problem.specs.declared.Allowance.the-variants.{Checks}
 use Rattle.events.specs.declared.Counts.{Counts}
-use Rattle.events.specs.Events.{Search}
-use Rattle.events.specs.Counts.{checkCounted, Leads}
-use Rattle.events.proofs.Leading.{leads-refl, leads-eq, leads-trans}
+use Rattle.events.specs.Events.{trial}
+use Rattle.events.specs.Counts.{checkCounted, Makes, StopsIn}
+use Rattle.events.proofs.Leading.{makes-append, makes-trial, trial-stops, stops-behind, checks-made}
 use Rattle.methods.specs.Choices.{mayStand}
-use Rattle.methods.specs.Moves.{only}
-use Rattle.methods.specs.BT.{lookingBack}
+use Rattle.methods.specs.BT.{Looked, lookBack, lookingBack}
+use Rattle.methods.proofs.Shown.{choices-size}
 use Rattle.words.specs.Layout.{word}
+use Rattle.words.specs.Sets.{setWords}
 use Rattle.words.proofs.Rows.{row-there, row-allows}
 use Rattle.visits.specs.declared.Backward.{Backward}
 use Rattle.visits.specs.declared.Backward.the-variants.{OneBack}
-use Rattle.visits.specs.Visits.{toCome, toComeAfter}
-use Rattle.visits.proofs.Visiting.{refused}
 use Rattle.visits.specs.declared.Look.{Look}
 use Rattle.visits.specs.Looks.{checkedLook}
-use Rattle.visits.proofs.Looking.{lookOf, looks-allowed, looks-forbidden, looks-out}
+use Rattle.visits.specs.Visits.{State, stepsOver, state, ComesTo, RunsOut}
+use Rattle.visits.proofs.Ends.{come-here, come-more}
+use Rattle.visits.proofs.Looking.{lookOf, Looking, looks-begin, looks-allowed, looks-forbidden, looks-end, looks-out, looks-made-few}
+use Rattle.visits.proofs.Visiting.{in-choices}
 use Rattle.looking_back.proofs.Links.{Next, next, none-left, links-few, link-boat, link-row}
-use Rattle.looking_back.proofs.Trials.{ended, mid, LookedTo, trial-on, trial-end, blamed-on, no-slot}
+use Rattle.looking_back.proofs.Trials.{LookedTo, slot-passes, slot-fails, slot-tries}
 use Rattle.looking_back.proofs.visit.Statement.{statement}
 use Rattle.looking_back.proofs.visit.Tie as tie
 
 abbrev Inv-boats : tie.InvT-boats
-Inv-boats sizes pairs rows i from with work size first end slot set counts₀ at₀ counts at = LookedTo (tables sizes pairs rows) work i slot set end counts₀ at counts
+Inv-boats sizes pairs rows i from with work size first end slot set counts₀ tried at₀ counts at = LookedTo (tables sizes pairs rows) work i slot end counts₀ at counts
 
 abbrev μ-boats : tie.MeasureT-boats
-μ-boats sizes pairs rows i from with work size first end slot set counts₀ at₀ counts at = end - at
+μ-boats sizes pairs rows i from with work size first end slot set counts₀ tried at₀ counts at = end - at
 
 abbrev Inv-loop : tie.InvT-loop
 Inv-loop sizes pairs rows i from with work size first end slot₀ set₀ counts₀ slot set counts =
     let t = tables sizes pairs rows in
-    (slot₀ ≤ slot)
-    × (set < 2 ^ i)
+    (set < 2 ^ i)
     × ((backward : Backward) →
-    Leads counts₀ (toCome t (lookingBack t) backward work i slot₀ set₀) counts (toCome t (lookingBack t) backward work i slot set))
+    ComesTo t (stepsOver t (lookingBack t) backward) (take i work) slot₀ (state backward (setWords work i set₀)) counts₀ slot (state backward (setWords work i set)) counts)
 
 abbrev μ-loop : tie.MeasureT-loop
 μ-loop sizes pairs rows i from with work size first end slot₀ set₀ counts₀ slot set counts = size - slot
@@ -101,31 +105,32 @@ in-size : (d : Turn) → d .before .loop .slot < size (T (d .before) .sizes) (I 
 in-size d = omega (arith, d .before .before .before .before .size-of .ensures .0)
 
 module _ (backward : Backward) (l : Slots) where
-  -- the run has come from the entry to here
-  abbrev Came : Counts → Search → Type 0
-  Came k y = Leads (S l .args .start) (toCome (T l) (lookingBack (T l)) backward (W l) (I l) (S l .args .from) (S l .args .with)) k y
+  -- the slots up to this one are given up
+  abbrev remembered : State backward
+  remembered = state backward (setWords (W l) (I l) (l .loop .set))
 
-  -- what is to come once the slot at hand has passed the boats below h, and at the end of its looks
-  abbrev passed : ℕ → Search
-  passed h = mid (T l) backward (W l) (I l) (l .loop .slot) (l .loop .set) h
+  abbrev Comes : Type 0
+  Comes =
+      ComesTo (T l) (stepsOver (T l) (lookingBack (T l)) backward) (take (I l) (W l)) (S l .args .from) (state backward (setWords (W l) (I l) (S l .args .with))) (S l .args .start)
+      (l .loop .slot) remembered (l .loop .counts)
 
-  abbrev after : Option ℕ → Search
-  after = ended (T l) backward (W l) (I l) (l .loop .slot) (l .loop .set)
+-- all that the looks of the slot at hand come to
+abbrev whole : Slots → Looked
+whole l = lookBack (T l) (I l) (l .loop .slot) 0 (take (I l) (W l))
 
 -- a trial has been counted
-at-trial : (backward : Backward) (c : tie.After-known-told Inv-boats μ-boats Inv-loop μ-loop) →
+at-trial : (c : tie.After-known-told Inv-boats μ-boats Inv-loop μ-loop) → let l = tried c .before in Makes (l .loop .counts) (trial (I l) (l .loop .slot) ∷ []) (c .before .k .given .0 .0)
+at-trial c =
     let l = tried c .before in
-    Came backward l (c .before .k .given .0 .0) (passed backward l 0)
-at-trial backward c =
-    let d = tried c in
-    let l = d .before in
-    let x = l .loop .inv .2 backward in
-    leads-trans x
-    (trial-on (T l) backward (W l) (I l) (short l) (inside l) _ _ _ _ _ (x .fits) (in-size d) (c .before .before .before .trial .ensures) (c .before .k .given .1))
+    makes-trial _ _ (l .loop .inv .1 OneBack .makes .fits) (I l) (l .loop .slot) (sym (c .before .before .before .trial .ensures) ∙ c .before .k .given .1)
 
--- and the boats below h have been looked at
-at-boats : (backward : Backward) (b : Boats) → let l = slots b in Came backward l (b .boats .counts) (passed backward l (b .boats .inv .h))
-at-boats backward b = leads-trans (at-trial backward (b .before)) (b .boats .inv .leads backward)
+-- the counts when its looks begin
+abbrev begun : Boats → Counts
+begun b = b .before .before .k .given .0 .0
+
+-- its events and all that they count: the trial, and the checks up to some counts
+all-made : (b : Boats) {k : Counts} → let l = slots b in Makes (begun b) (whole l .checks) k → Makes (l .loop .counts) (trial (I l) (l .loop .slot) ∷ whole l .checks) k
+all-made b m = makes-append (at-trial (b .before)) m
 
 -- where the links of the boat end
 abbrev End : Slots → ℕ
@@ -169,43 +174,54 @@ module _ (b : Boats) (left : b .boats .at < End (slots b)) where
       ∙ row-allows (T l) (there .boat) (I l) (found / 64) begins (there .listed) (word (W l) (there .boat)) (l .loop .slot))
       ∙ ap (λ (o : Bool). lookOf o (mayStand (T l) (there .boat) (word (W l) (there .boat)) (I l) (l .loop .slot)) (b .boats .counts)) (sym (there .listed))
 
-  -- the run has come to that boat
-  module _ (backward : Backward) where
-    to-link : Leads (b .boats .counts) (passed backward l (b .boats .inv .h)) (b .boats .counts) (passed backward l (there .boat))
-    to-link = leads-eq _ _ _ (at-boats backward b .fits) (there .passed (after backward l) (l .loop .slot))
+  -- the boats before that one are passed
+  looking-there : Looking (T l) (W l) (I l) (l .loop .slot) (whole l) (begun b) (there .boat) (b .boats .counts)
+  looking-there = there .passed (b .boats .inv .looking)
 
-    at-link : Came backward l (b .boats .counts) (passed backward l (there .boat))
-    at-link = leads-trans (at-boats backward b) to-link
+-- the run ends inside the step at the slot at hand
+stopped : (backward : Backward) (d : Turn) {which : Allowance} {made : ℕ} {k : Counts} →
+    let l = d .before in
+    StopsIn (l .loop .counts) (trial (I l) (l .loop .slot) ∷ whole l .checks) which made k →
+    RunsOut (T l) (stepsOver (T l) (lookingBack (T l)) backward) (take (I l) (W l)) (S l .args .from) (state backward (setWords (W l) (I l) (S l .args .with))) (S l .args .start)
+    which (l .loop .slot) (remembered backward l) made k
+stopped backward d s =
+    let l = d .before in
+    let z = slot-tries (T l) backward (W l) (I l) (short l) (inside l) _ _ (in-size d) in
+    record {
+      reached = l .loop .counts;
+      comes = l .loop .inv .1 backward;
+      stops = record {
+        inside = in-choices (T l) (lookingBack (T l)) backward (W l) (I l) (short l) (inside l) _ (l .loop .set) (in-size d);
+        events = trial (I l) (l .loop .slot) ∷ whole l .checks;
+        plan = z .0;
+        choice = z .1;
+        after = z .2;
+        steps = z .3;
+        stops = s;
+      };
+    }
 
 -- where the two ways out of the loop over boats meet: every boat has been passed, or one failed
-after-boats : (backward : Backward) (c : tie.Joined1 Inv-boats μ-boats Inv-loop μ-loop) →
+after-boats : (c : tie.Joined1 Inv-boats μ-boats Inv-loop μ-loop) →
     let l = slots (c .before) in
-    (c .if1 .failing ≡ I l → Came backward l (c .if1 .counts) (toComeAfter (T l) (lookingBack (T l)) backward (W l) (I l) (l .loop .slot) (l .loop .set)))
-    × ((c .if1 .failing ≡ I l → ⊥) →
-    (c .if1 .failing < I l)
-    × Came backward l (c .if1 .counts) (refused (T l) (lookingBack (T l)) backward (W l) (I l) (l .loop .slot) (l .loop .set) (only (c .if1 .failing))))
-after-boats backward c =
+    Makes (begun (c .before)) (whole l .checks) (c .if1 .counts)
+    × (c .if1 .failing ≡ I l → whole l .failing ≡ none)
+    × ((c .if1 .failing ≡ I l → ⊥) → (c .if1 .failing < I l) × (whole l .failing ≡ some (c .if1 .failing)))
+after-boats c =
     let b = c .before in
     let l = slots b in
-    let x = at-boats backward b in
     ⊎-elim
-    (λ w. (
-      (λ _.
-          rw (w .1)
-          (leads-trans x (leads-eq _ _ _ (x .fits) (none-left (T l) (W l) (I l) (short l) (b .boats .inv .links) (w .0 .taken) (after backward l) (l .loop .slot))))),
-      (λ n. absurd (n (w .2))),
-    ))
+    (λ w.
+    let z = looks-end (short l) (none-left (T l) (W l) (I l) (short l) (b .boats .inv .links) (w .0 .taken) (b .boats .inv .looking)) (le-refl _) in
+    (rw (w .1) (z .1), (λ _. z .0), (λ n. absurd (n (w .2)))))
     (λ w.
     let left = w .0 .left in
     let n = there b left in
-    let named-here : c .if1 .failing ≡ n .boat = w .9 ∙ named b left in (
+    let named-here : c .if1 .failing ≡ n .boat = w .9 ∙ named b left in
+    let z = looks-forbidden (short l) (looking-there b left) (n .below) _ _ (looked b left _ (w .4 .ensures)) (w .6 .given .1) in (
+      rw (w .8) (z .1),
       (λ e. absurd (omega (arith, e, named-here, n .below))),
-      (λ _. (
-        omega (arith, named-here, n .below),
-        rw (w .8, named-here)
-            (leads-trans (at-link b left backward)
-            (looks-forbidden (after backward l) (T l) (W l) (I l) _ (short l) _ _ (x .fits) (n .below) _ _ (looked b left _ (w .4 .ensures)) (w .6 .given .1))),
-      )),
+      (λ _. (omega (arith, named-here, n .below), rw named-here (z .0))),
     ))
     (c .if1 .came)
 
@@ -231,7 +247,7 @@ shared-slice-read-end : tie.Need-shared-slice-read-end Inv-boats μ-boats Inv-lo
 shared-slice-read-end c = let s = entry (c .before .before) in omega (arith, few s, s .pre .0 .room)
 
 loop-holds : tie.Need-loop-holds Inv-boats μ-boats Inv-loop μ-loop
-loop-holds c = let s = entry (c .before .before) in (le-refl _, s .pre .1 .1, (λ backward. leads-refl _ _ (s .pre .0 .fits)))
+loop-holds c = let s = entry (c .before .before) in (s .pre .1 .1, (λ backward. come-here _ _ (s .pre .0 .fits)))
 
 trial-requires : tie.Need-trial-requires Inv-boats μ-boats Inv-loop μ-loop
 trial-requires c κs = search needs
@@ -246,14 +262,19 @@ returns : tie.Need-returns Inv-boats μ-boats Inv-loop μ-loop
 returns c backward =
     let d = c .before .before .before .before in
     let l = d .before in
-    let x = l .loop .inv .2 backward in
-    x .same
-    ∙ trial-end (T l) backward (W l) (I l) (short l) (inside l) _ _ _ _ _ (x .fits) (in-size d) (c .before .before .before .trial .ensures) (c .before .k2 .given .1)
+    record {
+      below = l .loop .inv .0;
+      ends = stopped backward d (trial-stops _ _ (l .loop .inv .1 backward .makes .fits) _ _ _ (sym (c .before .before .before .trial .ensures) ∙ c .before .k2 .given .1));
+    }
 
 boats-holds : tie.Need-boats-holds Inv-boats μ-boats Inv-loop μ-loop
 boats-holds c =
     let l = tried c .before in
-    record { h = 0; links = S l .pre .1 .0 .linked .links (I l) (inside l); leads = λ backward. leads-refl _ _ (at-trial backward c .fits) }
+    record {
+      h = 0;
+      links = S l .pre .1 .0 .linked .links (I l) (inside l);
+      looking = looks-begin (T l) (W l) (I l) (l .loop .slot) 0 _ (at-trial c .fits);
+    }
 
 add-link : tie.Need-add-link Inv-boats μ-boats Inv-loop μ-loop
 add-link c = omega (arith, few-links (slots (c .before)), c .if1 .left)
@@ -294,15 +315,31 @@ enum-known-k-4 c = search needs
 enum-known-k-5 : tie.Need-enum-known-k-5 Inv-boats μ-boats Inv-loop μ-loop
 enum-known-k-5 c = search needs
 
-returns-2 : tie.Need-returns-2 Inv-boats μ-boats Inv-loop μ-loop
-returns-2 c backward =
-    let d = c .before .before .before in
+-- the checks ran out
+at-out : (c : tie.After-k5 Inv-boats μ-boats Inv-loop μ-loop) →
+    let b = looking (c .before .before) in
+    StopsIn (begun b) (whole (slots b) .checks) Checks (c .k5 .given .0 .0 .checks - begun b .checks) (c .k5 .given .0 .0)
+at-out c =
+    let d = c .before .before in
     let b = looking d in
     let l = slots b in
     let left = d .before .before .before .before .if1 .left in
-    at-link b left backward .same
-    ∙ looks-out (after backward l) (T l) (W l) (I l) _ (short l) _ _ (at-boats backward b .fits) (there b left .below) _ _ (looked b left _ (d .check-row .ensures))
-    (c .before .k5 .given .1)
+    looks-out (short l) (looking-there b left) (there b left .below) _ _ (looked b left _ (d .check-row .ensures)) (c .k5 .given .1)
+
+returns-2 : tie.Need-returns-2 Inv-boats μ-boats Inv-loop μ-loop
+returns-2 c backward =
+    let k = c .before .before in
+    let b = looking (k .before .before) in
+    record { below = slots b .loop .inv .0; ends = stopped backward (tried (b .before)) (stops-behind (at-trial (b .before)) (at-out k)) }
+
+sub-made : tie.Need-sub-made Inv-boats μ-boats Inv-loop μ-loop
+sub-made c = omega (arith, checks-made (at-out (c .before .before) .makes))
+
+add-made : tie.Need-add-made Inv-boats μ-boats Inv-loop μ-loop
+add-made c =
+    let k = c .before .before in
+    let l = slots (looking (k .before .before)) in
+    omega (arith, few (S l), looks-made-few (T l) (W l) (I l) (l .loop .slot) 0 (short l) (at-out k))
 
 add-at : tie.Need-add-at Inv-boats μ-boats Inv-loop μ-loop
 add-at c =
@@ -322,21 +359,29 @@ boats-again c =
     record {
       h = n .boat + 1;
       links = rw (add-one, add-one) (n .rest);
-      leads = λ backward.
-          leads-trans (b .boats .inv .leads backward)
-          (leads-trans (to-link b left backward)
-          (looks-allowed (after backward l) (T l) (W l) (I l) _ (short l) _ _ (at-boats backward b .fits) (n .below) _ _ (looked b left _ (d .check-row .ensures))
-          (c .before .k3 .given .1)));
+      looking = looks-allowed (short l) (looking-there b left) (n .below) _ _ (looked b left _ (d .check-row .ensures)) (c .before .k3 .given .1);
     }
 
 returns-3 : tie.Need-returns-3 Inv-boats μ-boats Inv-loop μ-loop
 returns-3 c backward =
     let d = tried (c .before .before .before) in
     let l = d .before in
-    record { from = l .loop .inv .0; inside = in-size d; below = l .loop .inv .1; leads = after-boats backward (c .before) .0 (c .if2 .taken) }
+    let z = after-boats (c .before) in
+    record {
+      below = l .loop .inv .0;
+      ends = record {
+        inside = in-choices (T l) (lookingBack (T l)) backward (W l) (I l) (short l) (inside l) _ (l .loop .set) (in-size d);
+        remembered = remembered backward l;
+        reached = l .loop .counts;
+        comes = l .loop .inv .1 backward;
+        events = trial (I l) (l .loop .slot) ∷ whole l .checks;
+        steps = slot-passes (T l) backward (W l) (I l) (short l) (inside l) _ _ (in-size d) (z .1 (c .if2 .taken));
+        makes = all-made (c .before .before) (z .0);
+      };
+    }
 
 with-member-requires : tie.Need-with-member-requires Inv-boats μ-boats Inv-loop μ-loop
-with-member-requires c κs = omega (arith, after-boats OneBack (c .before) .1 (c .if2 .left) .0, few (S (slots (c .before .before))))
+with-member-requires c κs = omega (arith, after-boats (c .before) .2 (c .if2 .left) .0, few (S (slots (c .before .before))))
 
 add-slot : tie.Need-add-slot Inv-boats μ-boats Inv-loop μ-loop
 add-slot c = search needs
@@ -346,23 +391,23 @@ loop-less c = search needs
 
 loop-again : tie.Need-loop-again Inv-boats μ-boats Inv-loop μ-loop
 loop-again c =
-    let l = slots (c .before .before .before) in
-    let f = after-boats OneBack (c .before .before) .1 (c .before .if2 .left) .0 in (
-      omega (arith, l .loop .inv .0),
-      c .with-member .ensures .below (I l) f (l .loop .inv .1),
+    let d = tried (c .before .before .before .before) in
+    let l = d .before in
+    let z = after-boats (c .before .before) in
+    let f = z .2 (c .before .if2 .left) in (
+      c .with-member .ensures .below (I l) (f .0) (l .loop .inv .0),
       (λ backward.
-          let z = after-boats backward (c .before .before) .1 (c .before .if2 .left) .1 in
-          leads-trans z (blamed-on (T l) backward (W l) (I l) (short l) (inside l) _ _ _ _ _ (z .fits) (c .with-member .ensures))),
+          rw add-one
+          (come-more (T l) _ (l .loop .inv .1 backward)
+          (slot-fails (T l) backward (W l) (I l) (short l) (inside l) _ _ (in-size d) _ _ (f .1) (c .with-member .ensures)) (all-made (c .before .before .before) (z .0)))),
     )
 
 returns-4 : tie.Need-returns-4 Inv-boats μ-boats Inv-loop μ-loop
 returns-4 c backward =
     let l = c .before in
-    let x = l .loop .inv .2 backward in
     record {
-      below = l .loop .inv .1;
-      leads = leads-trans x
-          (no-slot (T l) backward (W l) (I l) (short l) (inside l) _ _ _ (x .fits) (omega (arith, l .before .before .before .size-of .ensures .0)));
+      below = l .loop .inv .0;
+      ends = record { last = l .loop .slot; none = rw (length-take-le (I l) (W l) (short l), choices-size (T l) (I l)) (omega (arith, l .before .before .before .size-of .ensures .0)); comes = l .loop .inv .1 backward };
     }
 
 pub visit-spec : {M : Type 1} → statement M
@@ -398,6 +443,8 @@ visit-spec =
     enum-known-k-3
     enum-known-k-4
     enum-known-k-5
+    sub-made
+    add-made
     returns-2
     add-at
     boats-less

@@ -1,37 +1,37 @@
--- Two loops: at each place both keep that what was to come at the entry leads to what is to come there.
-use mathlib.Core.Path.{_≡_, _∙_}
-use mathlib.Core.List.{List}
+-- Two loops: that over slots keeps which slots the visit has given up, that over boats which looks of the trial are made.
+use mathlib.Core.Path.{_≡_}
+use mathlib.Core.List.{List, [], _∷_}
 use mathlib.Core.Logic.{⊎-elim}
 use mathlib.Core.Option.{Option, none, some}
 use Prim.Native.Nat.{ℕ, _+_, _-_, _≤_, _<_}
 use borrow.Author.Needs.{needs}
 use native.Mathlib.Omega.{arith}
 use lib.ListN.{length, getD}
-use Rattle.problem.specs.Tables.{Tables, tables, size, isListed, bit}
+use Rattle.problem.specs.Tables.{Tables, tables, isListed, bit}
+use Rattle.problem.specs.declared.Allowance.the-variants.{Checks}
 use Rattle.events.specs.declared.Counts.{Counts}
-use Rattle.events.specs.Events.{Search}
-use Rattle.events.specs.Counts.{Leads}
-use Rattle.events.proofs.Leading.{leads-refl, leads-trans}
+use Rattle.events.specs.Events.{trial}
+use Rattle.events.specs.Counts.{Makes, StopsIn}
+use Rattle.events.proofs.Leading.{checks-made}
 use Rattle.methods.specs.Choices.{mayStand}
+use Rattle.methods.specs.BT.{Looked}
 use Rattle.words.specs.Places.{lowAt, marks, markAt, used}
 use Rattle.words.specs.Layout.{word, indexOf}
 use Rattle.words.proofs.Triangle.{tri-small}
 use Rattle.visits.specs.declared.Look.{Look}
-use Rattle.visits.proofs.Looking.{from as lookingFrom, lookOf, looks-end, looks-allowed, looks-forbidden, looks-out}
+use Rattle.visits.proofs.Looking.{Looking, lookOf, looks-begin, looks-end, looks-allowed, looks-forbidden, looks-out, looks-made-few}
 use Rattle.marking.specs.Looks.{lookedAt}
-use Rattle.marking.specs.Marks.{toComeMarked}
 use Rattle.marking.proofs.Indices.{index-at, index-row, looked-as}
-use Rattle.marking.proofs.Visits.{settled, Come, few, come-first, still-room, still-placed, still-indexed, spent, slot-small, mark-inside, mark-only, skips, looks, no-trial, passes, refuses}
+use Rattle.marking.proofs.Visits.{looksFrom, Come, AtSlot, few, come-first, spent, still-room, still-placed, still-indexed, slot-small, mark-inside, mark-only, tried as triedAt, skips, no-trial, no-check, passes, refuses}
 use Rattle.marking.proofs.visit.Statement.{statement}
 use Rattle.marking.proofs.visit.Tie as tie
 
--- whatever is to come at the end of the looks
 abbrev Inv-boats : tie.InvT-boats
-Inv-boats sizes pairs rows i from work size row low slot counts₀ mark h₀ counts h =
-    (ended : Option ℕ → Search) → Leads counts₀ (lookingFrom ended (tables sizes pairs rows) work i slot h₀) counts (lookingFrom ended (tables sizes pairs rows) work i slot h)
+Inv-boats sizes pairs rows i from work size row low slot counts₀ mark tried h₀ counts h =
+    let t = tables sizes pairs rows in Looking t work i slot (looksFrom t work i slot h₀) counts₀ h counts
 
 abbrev μ-boats : tie.MeasureT-boats
-μ-boats sizes pairs rows i from work size row low slot counts₀ mark h₀ counts h = i - h
+μ-boats sizes pairs rows i from work size row low slot counts₀ mark tried h₀ counts h = i - h
 
 abbrev Inv-loop : tie.InvT-loop
 Inv-loop sizes pairs rows i from work₀ size row low slot₀ counts₀ work slot counts = Come (tables sizes pairs rows) work₀ i from counts₀ work slot counts
@@ -84,42 +84,27 @@ slots b = turn b .before
 abbrev boats : tie.After-look-at Inv-boats μ-boats Inv-loop μ-loop → Boats
 boats c = c .before .before .before .before
 
--- the run has come from the entry to here
-abbrev Came : Slots → Counts → Search → Type 0
-Came l k y = Leads (S l .args .start) (toComeMarked (T l) (W l) (I l) (S l .args .from)) k y
-
--- what is to come at the end of a slot's looks
-abbrev after : Slots → Option ℕ → Search
-after l = settled (T l) (W l) (Now l) (I l) (l .loop .slot)
-
--- ---- a turn of the loop over slots: the word of the slot's mark is there
+-- ---- a turn of the loop over slots: the boat has the slot, and the word of its mark is there
 module _ (d : Turn) where
-  in-size : d .before .loop .slot < size (T (d .before) .sizes) (I (d .before))
-  in-size = omega (arith, d .before .before .before .before .size-of .ensures .0)
+  at-slot : let l = d .before in AtSlot (T l) (W l) (I l) (S l .args .from) (S l .args .start) (Now l) (l .loop .slot) (l .loop .counts)
+  at-slot =
+      record { stands = S (d .before) .pre .0; come = d .before .loop .inv; has = omega (arith, d .before .before .before .before .size-of .ensures .0) }
 
   inside : markAt (I (d .before)) (d .before .loop .slot) < used
-  inside = mark-inside (S (d .before) .pre .0) (d .before .loop .inv) in-size
+  inside = mark-inside at-slot
 
   room : used ≤ length (Now (d .before))
-  room = still-room (S (d .before) .pre .0) (d .before .loop .inv)
+  room = still-room at-slot
 
--- ---- the mark does not tell: looks are due
-at-looks : (c : tie.Then1 Inv-boats μ-boats Inv-loop μ-loop) →
-    let k = c .before .before in
-    let l = tried k .before in
-    Came l (k .before .k .given .0 .0) (lookingFrom (after l) (T l) (Now l) (I l) (l .loop .slot) (word (W l) (lowAt (I l))))
-at-looks c =
-    let k = c .before .before in
-    let d = tried k in
-    looks (S (d .before) .pre .0) (d .before .loop .inv) (in-size d) _ _ (k .before .before .before .trial .ensures) (k .before .k .given .1) (c .if1 .taken)
+-- its trial is made
+at-trial : (c : tie.After-known-told Inv-boats μ-boats Inv-loop μ-loop) →
+    let l = tried c .before in Makes (l .loop .counts) (trial (I l) (l .loop .slot) ∷ []) (c .before .k .given .0 .0)
+at-trial c = triedAt (at-slot (tried c)) _ _ (c .before .before .before .trial .ensures) (c .before .k .given .1)
 
 -- ---- the boats below h have been looked at
 module _ (b : Boats) where
   abbrev l : Slots
   l = slots b
-
-  at-boats : Came l (b .boats .counts) (lookingFrom (after l) (T l) (Now l) (I l) (l .loop .slot) (b .boats .h))
-  at-boats = leads-trans (at-looks (b .before)) (b .boats .inv (after l))
 
   short : I l ≤ length (Now l)
   short = omega (arith, few (S l .pre .0), room (turn b))
@@ -140,38 +125,56 @@ module _ (b : Boats) where
 
     indexed : found ≡ indexOf (T l) (b .boats .h) (I l)
     indexed =
-        index-at (T l) (b .boats .h) (I l) (Now l) row (still-indexed (S l .pre .0) (l .loop .inv) (S l .pre .1 .indexed)) (l .before .before .row-at .ensures) below
+        index-at (T l) (b .boats .h) (I l) (Now l) row (still-indexed (at-slot (turn b)) (S l .pre .1 .indexed)) (l .before .before .row-at .ensures) below
         (S l .pre .0 .boat)
 
     row-inside : 0 < found → found - 1 + held < length (T l .rows)
     row-inside =
-        index-row (T l) (b .boats .h) (I l) held found indexed (S l .pre .0 .sane) (still-placed (S l .pre .0) (l .loop .inv) (S l .pre .1 .placed) (b .boats .h) below)
+        index-row (T l) (b .boats .h) (I l) held found indexed (S l .pre .0 .sane) (still-placed (at-slot (turn b)) (S l .pre .1 .placed) (b .boats .h) below)
 
     looked : (r : Look) → r ≡ lookedAt found (bit (getD (T l .rows) (found - 1 + held) 0) (l .loop .slot)) (b .boats .counts) →
         r ≡ lookOf (isListed (T l .pairs) (b .boats .h) (I l)) (mayStand (T l) (b .boats .h) held (I l) (l .loop .slot)) (b .boats .counts)
     looked r e = looked-as (T l) (b .boats .h) (I l) held found indexed (l .loop .slot) (b .boats .counts) e
 
--- ---- where the two ways out of the loop over boats meet: every boat has been passed, or one failed
+-- ---- what the looks come to, from the counts with the trial
+abbrev start : Boats → Counts
+start b = b .before .before .before .before .k .given .0 .0
+
+abbrev whole : Boats → Looked
+whole b = let l = slots b in looksFrom (T l) (Now l) (I l) (l .loop .slot) (word (W l) (lowAt (I l)))
+
+-- they are over, with this boat failing, or none
+abbrev Over : Boats → Option ℕ → Counts → Type 0
+Over b f n = (whole b .failing ≡ f) × Makes (start b) (whole b .checks) n
+
+-- where the two ways out of the loop over boats meet: every boat has been passed, or one failed
 after-boats : (c : tie.Joined2 Inv-boats μ-boats Inv-loop μ-loop) →
     let l = slots (c .before) in
-    (c .if2 .failing ≡ I l → Came l (c .if2 .counts) (after l none)) × ((c .if2 .failing ≡ I l → ⊥) → Came l (c .if2 .counts) (after l (some (c .if2 .failing))))
+    (c .if2 .failing ≡ I l → Over (c .before) none (c .if2 .counts)) × ((c .if2 .failing ≡ I l → ⊥) → Over (c .before) (some (c .if2 .failing)) (c .if2 .counts))
 after-boats c =
     let b = c .before in
-    let l = slots b in
-    let x = at-boats b in
+    let x = b .boats .inv in
     ⊎-elim
-    (λ w. (
-      (λ _. rw (w .1) (leads-trans x (looks-end (after l) (T l) (Now l) (I l) _ (short b) _ _ (x .fits) (w .0 .taken)))),
-      (λ n. absurd (n (w .2))),
-    ))
+    (λ w. ((λ _. rw (w .1) (looks-end (short b) x (w .0 .taken))), (λ n. absurd (n (w .2)))))
     (λ w. (
       (λ e. absurd (omega (arith, e, w .8, w .0 .left))),
-      (λ _.
-          rw (w .7, w .8)
-          (leads-trans x
-          (looks-forbidden (after l) (T l) (Now l) (I l) _ (short b) _ _ (x .fits) (w .0 .left) _ _ (looked b (w .0 .left) _ (w .3 .ensures)) (w .5 .given .1)))),
+      (λ _. rw (w .7, w .8) (looks-forbidden (short b) x (w .0 .left) _ _ (looked b (w .0 .left) _ (w .3 .ensures)) (w .5 .given .1))),
     ))
     (c .if2 .came)
+
+-- the allowance does not cover the next check
+module _ (c : tie.After-known-told5 Inv-boats μ-boats Inv-loop μ-loop) where
+  abbrev look : tie.After-look-at Inv-boats μ-boats Inv-loop μ-loop
+  look = c .before .before .before
+
+  abbrev reached : Counts
+  reached = c .before .k5 .given .0 .0
+
+  at-out : StopsIn (start (boats look)) (whole (boats look) .checks) Checks (reached .checks - start (boats look) .checks) reached
+  at-out =
+      let b = boats look in
+      let below = look .before .before .before .if2 .left in
+      looks-out (short b) (b .boats .inv) below _ _ (looked b below _ (look .look-at .ensures)) (c .before .k5 .given .1)
 
 size-of-requires : tie.Need-size-of-requires Inv-boats μ-boats Inv-loop μ-loop
 size-of-requires c κs = entry c .pre .0 .boat
@@ -206,8 +209,7 @@ same-length c = c .before .before .before .before .before .loop .inv .only .long
 returns : tie.Need-returns Inv-boats μ-boats Inv-loop μ-loop
 returns c =
     let d = c .before .before .before .before in
-    let l = d .before in
-    (no-trial (S l .pre .0) (l .loop .inv) (in-size d) _ _ (c .before .before .before .trial .ensures) (c .before .k2 .given .1), l .loop .inv .only)
+    (no-trial (at-slot d) _ _ (c .before .before .before .trial .ensures) (c .before .k2 .given .1), d .before .loop .inv .only)
 
 mul-mark : tie.Need-mul-mark Inv-boats μ-boats Inv-loop μ-loop
 mul-mark c = omega (arith, inside (tried c))
@@ -225,7 +227,7 @@ slice-read-if1 : tie.Need-slice-read-if1 Inv-boats μ-boats Inv-loop μ-loop
 slice-read-if1 c = let d = tried (c .before) in omega (arith, inside d, room d)
 
 boats-holds : tie.Need-boats-holds Inv-boats μ-boats Inv-loop μ-loop
-boats-holds c = λ ended. leads-refl _ _ (at-looks c .fits)
+boats-holds c = looks-begin _ _ _ _ _ _ (at-trial (c .before .before) .fits)
 
 add-look-at : tie.Need-add-look-at Inv-boats μ-boats Inv-loop μ-loop
 add-look-at c = omega (arith, index-inside (c .before) (c .if2 .left))
@@ -243,10 +245,7 @@ slice-read-look-at-2 : tie.Need-slice-read-look-at-2 Inv-boats μ-boats Inv-loop
 slice-read-look-at-2 c = let b = c .before .before .before in omega (arith, few (S (slots b) .pre .0), room (turn b), c .before .before .if2 .left)
 
 look-at-requires : tie.Need-look-at-requires Inv-boats μ-boats Inv-loop μ-loop
-look-at-requires c κs =
-    let b = c .before .before .before in
-    let l = slots b in
-    (slot-small (S l .pre .0) (l .loop .inv) (in-size (turn b)), row-inside b (c .before .before .if2 .left))
+look-at-requires c κs = let b = c .before .before .before in (slot-small (at-slot (turn b)), row-inside b (c .before .before .if2 .left))
 
 enum-known-k-3 : tie.Need-enum-known-k-3 Inv-boats μ-boats Inv-loop μ-loop
 enum-known-k-3 c = search needs
@@ -257,20 +256,22 @@ enum-known-k-4 c = search needs
 enum-known-k-5 : tie.Need-enum-known-k-5 Inv-boats μ-boats Inv-loop μ-loop
 enum-known-k-5 c = search needs
 
+sub-made : tie.Need-sub-made Inv-boats μ-boats Inv-loop μ-loop
+sub-made c = omega (arith, checks-made (at-out (c .before) .makes))
+
+add-made : tie.Need-add-made Inv-boats μ-boats Inv-loop μ-loop
+add-made c =
+    let b = boats (look (c .before)) in
+    let l = slots b in
+    omega (arith, few (S l .pre .0), looks-made-few (T l) (Now l) (I l) (l .loop .slot) (word (W l) (lowAt (I l))) (short b) (at-out (c .before)))
+
 same-length-2 : tie.Need-same-length-2 Inv-boats μ-boats Inv-loop μ-loop
-same-length-2 c = slots (boats (c .before .before .before)) .loop .inv .only .long
+same-length-2 c = slots (boats (look (c .before))) .loop .inv .only .long
 
 returns-2 : tie.Need-returns-2 Inv-boats μ-boats Inv-loop μ-loop
 returns-2 c =
-    let d = c .before .before .before in
-    let b = boats d in
-    let l = slots b in
-    let x = at-boats b in
-    let below = d .before .before .before .if2 .left in (
-      x .same
-          ∙ looks-out (after l) (T l) (Now l) (I l) _ (short b) _ _ (x .fits) below _ _ (looked b below _ (d .look-at .ensures)) (c .before .k5 .given .1),
-      l .loop .inv .only,
-    )
+    let b = boats (look (c .before)) in
+    (no-check (at-slot (turn b)) (b .before .if1 .taken) (at-trial (b .before .before .before)) (at-out (c .before)), slots b .loop .inv .only)
 
 add-h : tie.Need-add-h Inv-boats μ-boats Inv-loop μ-loop
 add-h c = omega (arith, few (S (slots (boats (c .before .before .before))) .pre .0))
@@ -282,11 +283,8 @@ boats-again : tie.Need-boats-again Inv-boats μ-boats Inv-loop μ-loop
 boats-again c =
     let d = c .before .before .before in
     let b = boats d in
-    let l = slots b in
     let below = d .before .before .before .if2 .left in
-    λ ended.
-    leads-trans (b .boats .inv ended)
-    (looks-allowed ended (T l) (Now l) (I l) _ (short b) _ _ (at-boats b .fits) below _ _ (looked b below _ (d .look-at .ensures)) (c .before .k3 .given .1))
+    looks-allowed (short b) (b .boats .inv) below _ _ (looked b below _ (d .look-at .ensures)) (c .before .k3 .given .1)
 
 boat-before-requires : tie.Need-boat-before-requires Inv-boats μ-boats Inv-loop μ-loop
 boat-before-requires c κs = search needs
@@ -298,15 +296,14 @@ slice-write-work : tie.Need-slice-write-work Inv-boats μ-boats Inv-loop μ-loop
 slice-write-work c = let d = turn (c .before .before .before) in omega (arith, inside d, room d)
 
 same-length-3 : tie.Need-same-length-3 Inv-boats μ-boats Inv-loop μ-loop
-same-length-3 c = let d = turn (c .before .before .before) in mark-only (S (d .before) .pre .0) (d .before .loop .inv) (in-size d) _ .long
+same-length-3 c = mark-only (at-slot (turn (c .before .before .before))) _ .long
 
 returns-3 : tie.Need-returns-3 Inv-boats μ-boats Inv-loop μ-loop
 returns-3 c =
-    let d = turn (c .before .before .before) in
-    let l = d .before in (
-      passes (S l .pre .0) (l .loop .inv) (in-size d) _ _ (c .boat-before .ensures) (after-boats (c .before .before) .0 (c .before .if3 .taken)),
-      mark-only (S l .pre .0) (l .loop .inv) (in-size d) _,
-    )
+    let j = c .before .before in
+    let looks = j .before .before in
+    let x = at-slot (turn (j .before)) in
+    (passes x (looks .if1 .taken) (at-trial (looks .before .before)) _ (c .boat-before .ensures) (after-boats j .0 (c .before .if3 .taken)), mark-only x _)
 
 mul-work-2 : tie.Need-mul-work-2 Inv-boats μ-boats Inv-loop μ-loop
 mul-work-2 c = omega (arith, inside (turn (c .before .before)))
@@ -323,13 +320,12 @@ loop-less c = omega (arith, tried (c .before .before) .loop-test .taken)
 loop-again : tie.Need-loop-again Inv-boats μ-boats Inv-loop μ-loop
 loop-again c =
     let k = c .before .before in
-    let d = tried k in
-    let l = d .before in
+    let x = at-slot (tried k) in
     ⊎-elim
     (λ w.
     let j : tie.Joined2 Inv-boats μ-boats Inv-loop μ-loop = record { before = record { before = record { before = c .before; if1 = w .0 }; boats = w .1 }; if2 = w .2 } in
-    rw (w .4, w .5) (refuses (S l .pre .0) (l .loop .inv) (in-size d) _ _ (after-boats j .1 (w .3 .left))))
-    (λ w. rw (w .1, w .2) (skips (S l .pre .0) (l .loop .inv) (in-size d) _ _ (k .before .before .before .trial .ensures) (k .before .k .given .1) (w .0 .left)))
+    rw (w .4, w .5) (refuses x (w .0 .taken) (at-trial k) _ (after-boats j .1 (w .3 .left))))
+    (λ w. rw (w .1, w .2) (skips x _ _ (k .before .before .before .trial .ensures) (k .before .k .given .1) (w .0 .left)))
     (c .if1 .came)
 
 same-length-4 : tie.Need-same-length-4 Inv-boats μ-boats Inv-loop μ-loop
@@ -374,6 +370,8 @@ visit-spec =
     enum-known-k-3
     enum-known-k-4
     enum-known-k-5
+    sub-made
+    add-made
     same-length-2
     returns-2
     add-h

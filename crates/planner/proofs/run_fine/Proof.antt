@@ -9,11 +9,13 @@ use lib.Dec.{ltb}
 use lib.ListN.{length}
 use Rattle.problem.specs.Tables.{Tables, tables, boats}
 use Rattle.problem.specs.Sane.{Sane}
-use Rattle.problem.specs.declared.Answer.the-variants.{Solved}
 use Rattle.problem.specs.declared.Reply.{Reply}
 use Rattle.tables.proofs.Fine.{fine-sane}
+use Rattle.events.specs.declared.Counts.{Counts}
 use Rattle.events.specs.Counts.{Fits}
 use Rattle.words.specs.Layout.{word}
+use Rattle.walk.specs.declared.Ended.the-variants.{Solved}
+use Rattle.walk.proofs.Cut.{solved-placed}
 use Rattle.planner.specs.Runs.{resultOf}
 use Rattle.planner.proofs.Refusing.{lent-8, lent-9, lent-enough, lent-refused, lent-finished}
 use Rattle.planner.proofs.Finished.{finished}
@@ -62,8 +64,9 @@ module _ (x : tie.After-search) where
   left-room : 8192 ≤ length left
   left-room = omega (arith, x .search .ensures .only .long, room ready)
 
-  small : x .search .result .answer ≡ Solved → (k : ℕ) → k < boats (T (start ready)) → word left k < 256
-  small e k l = omega (arith, x .search .ensures .slots e k l, sane ready .fewSlots k l)
+  small : (c : Counts) → x .search .result ≡ Solved c → (k : ℕ) → k < boats (T (start ready)) → word left k < 256
+  small c e k l =
+      omega (arith, solved-placed (x .search .ensures) c e k l, sane ready .fewSlots k l)
 
 refused-requires : tie.Need-refused-requires
 refused-requires c κs = search needs
@@ -110,6 +113,9 @@ write-plan-requires c κs =
 clear-requires : tie.Need-clear-requires
 clear-requires c κs = left-room (c .before .before .before .before .before .before .before .before)
 
+reply-of-requires : tie.Need-reply-of-requires
+reply-of-requires c κs = search needs
+
 same-length : tie.Need-same-length
 same-length c = search needs
 
@@ -118,12 +124,12 @@ same-length-2 c = search needs
 
 returns-3 : tie.Need-returns-3
 returns-3 c =
-    let p = c .before .before .before .before .before .before in
+    let p = c .before .before .before .before .before .before .before in
     let x = p .before .before .before .before .before in
     let z = ready x in
     let s = start z in
     finished (s .args .method) (T s) (s .args .checks) (s .args .trials) (x .search .result) _ (planOf s) (p .write-plan .last .1 .1 .1 .0) (workOf s) (left x) _
-    (x .before .before .new .ensures) (rw (x .before .before .before .moves-of .ensures) at (x .search .ensures)) (p .write-plan .ensures) (c .before .before .clear .ensures)
+    (c .reply-of .ensures) (x .before .before .new .ensures) (omega (arith, left-room x, sane z .fewBoats)) (rw (x .before .before .before .moves-of .ensures) at (x .search .ensures)) (p .write-plan .ensures) (c .before .before .before .clear .ensures)
     ∙ sym (lent-finished (s .args .method) (T s) (planOf s) (workOf s) (s .args .checks) (s .args .trials) (lent-enough (T s) (length (planOf s)) (length (workOf s)) (plan-fits z) (enough z)))
 
 pub run-fine-spec : {M : Type 1} → statement M
@@ -140,6 +146,7 @@ run-fine-spec =
     search-requires
     write-plan-requires
     clear-requires
+    reply-of-requires
     same-length
     same-length-2
     returns-3)

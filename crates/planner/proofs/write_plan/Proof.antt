@@ -4,8 +4,8 @@ use Prim.Native.Nat.{ℕ}
 use borrow.Author.Needs.{needs}
 use lib.ListN.{length, take, drop}
 use lib.Seq.{length-take-le}
-use Rattle.problem.specs.declared.Answer.{Answer}
-use Rattle.walk.specs.Walks.{decisionOf}
+use Rattle.walk.specs.declared.Ended.{Ended}
+use Rattle.walk.specs.Walks.{decisionThen}
 use Rattle.planner.specs.Runs.{written}
 use Rattle.planner.proofs.write_plan.Statement.{statement}
 use Rattle.planner.proofs.write_plan.Tie as tie
@@ -16,16 +16,13 @@ enum-told c = search needs
 copy-plan-requires : tie.Need-copy-plan-requires
 copy-plan-requires c κs =
     let s = c .before .before .before .before .before in
-    (s .pre .0, s .pre .1 (c .before .enum-told .given .1))
+    (s .pre .0, s .pre .1 _ (c .before .enum-told .given .1))
 
 enum-told-2 : tie.Need-enum-told-2
 enum-told-2 c = search needs
 
 enum-told-3 : tie.Need-enum-told-3
 enum-told-3 c = search needs
-
-enum-told-4 : tie.Need-enum-told-4
-enum-told-4 c = search needs
 
 same-length : tie.Need-same-length
 same-length c = search needs
@@ -36,7 +33,7 @@ returns c =
     let p = take (s .args .n) (s .args .work .now) in
     c .before .before .copy-plan .ensures
     ∙ ap (λ (k : ℕ). p ++ drop k (s .args .plan .now)) (sym (length-take-le (s .args .n) (s .args .work .now) (s .pre .0 .0)))
-    ∙ ap (λ (a : Answer). written (decisionOf a p) ++ drop (length (written (decisionOf a p))) (s .args .plan .now))
+    ∙ ap (λ (r : Ended). written (decisionThen r p) ++ drop (length (written (decisionThen r p))) (s .args .plan .now))
     (sym (c .before .before .before .before .enum-told .given .1))
 
 returns-2 : tie.Need-returns-2
@@ -44,9 +41,6 @@ returns-2 c = search needs
 
 returns-3 : tie.Need-returns-3
 returns-3 c = search needs
-
-returns-4 : tie.Need-returns-4
-returns-4 c = search needs
 
 pub write-plan-spec : {M : Type 1} → statement M
 write-plan-spec =
@@ -56,9 +50,7 @@ write-plan-spec =
     copy-plan-requires
     enum-told-2
     enum-told-3
-    enum-told-4
     same-length
     returns
     returns-2
-    returns-3
-    returns-4)
+    returns-3)

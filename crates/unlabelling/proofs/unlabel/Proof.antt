@@ -3,8 +3,11 @@ use mathlib.Core.Path.{_≡_, sym, ap, _∙_, subst}
 use mathlib.Core.List.{List}
 use Prim.Native.Nat.{ℕ, _^_, _<_}
 use native.Mathlib.Nat.{le-refl}
+use native.Mathlib.Omega.{arith}
 use Rattle.problem.specs.Tables.{Tables, tables}
+use Rattle.words.specs.Places.{blames, lastAt}
 use Rattle.words.specs.Layout.{word}
+use Rattle.words.proofs.Chains.{last-before}
 use Rattle.visits.specs.declared.Backward.the-variants.{BySets}
 use Rattle.visits.specs.declared.Unlabelled.{Unlabelled}
 use Rattle.moves.specs.declared.Moves.{Moves}
@@ -43,6 +46,19 @@ back-sets n e = n .moves .given .1 ∙ ap LookingBack e
 
 ahead-sets : (n : tie.After-moves2) → n .moves2 .given .0 .0 ≡ BySets → entry (n .before .before) .args .moves ≡ LookingAhead BySets
 ahead-sets n e = n .moves2 .given .1 ∙ ap LookingAhead e
+
+-- FC-CBJ: the function's entry, what is known there, and where the last live word stands
+abbrev start : tie.After-enum-told5 → tie.Start
+start e = entry (e .before .before .before .before .before)
+
+known : (e : tie.After-enum-told5) → Kept (LookingAhead BySets) (T (start e)) (W (start e)) (start e .args .i)
+known e = kept-as (start e) (ahead-sets (e .before .before .before) (e .enum-told5 .given .1))
+
+among : (e : tie.After-enum-told5) → word (W (start e)) (lastAt (start e .args .i)) < blames
+among e =
+    let s = start e in
+    let g = s .pre .0 in
+    omega (arith, last-before (T s) (g .sane) (known e .words .chained) (s .args .i) (g .boat), g .sane .fewPairs)
 
 enum-known-moves : tie.Need-enum-known-moves
 enum-known-moves c = search needs
@@ -94,26 +110,39 @@ step-back-requires-2 c κs = search needs
 enum-told-5 : tie.Need-enum-told-5
 enum-told-5 c = search needs
 
-add-blamed : tie.Need-add-blamed
-add-blamed c = search needs
+add-last : tie.Need-add-last
+add-last c = search needs
 
-mul-blamed : tie.Need-mul-blamed
-mul-blamed c = search needs
+mul-last : tie.Need-mul-last
+mul-last c = search needs
 
-slice-read-blamed : tie.Need-slice-read-blamed
-slice-read-blamed c = search needs
+slice-read-last : tie.Need-slice-read-last
+slice-read-last c = search needs
 
-blamers-requires : tie.Need-blamers-requires
-blamers-requires c κs = search needs
+add-jump-back-2 : tie.Need-add-jump-back-2
+add-jump-back-2 c = search needs
+
+mul-jump-back-2 : tie.Need-mul-jump-back-2
+mul-jump-back-2 c = search needs
+
+slice-read-jump-back-2 : tie.Need-slice-read-jump-back-2
+slice-read-jump-back-2 c = search needs
+
+add-jump-back-3 : tie.Need-add-jump-back-3
+add-jump-back-3 c = omega (arith, among (c .before .before))
+
+mul-jump-back-3 : tie.Need-mul-jump-back-3
+mul-jump-back-3 c = omega (arith, among (c .before .before))
+
+slice-read-jump-back-3 : tie.Need-slice-read-jump-back-3
+slice-read-jump-back-3 c = let e = c .before .before .before in omega (arith, among e, start e .pre .0 .room)
 
 jump-back-requires-2 : tie.Need-jump-back-requires-2
 jump-back-requires-2 c κs =
-    let b = c .before in
-    let e = b .before .before .before in
-    let n = e .before .before .before in
-    let s = entry (n .before .before) in
-    let low = kept-as s (ahead-sets n (e .enum-told5 .given .1)) .sets in
-    (left-few (s .pre .0), s .pre .0 .room, blamed-below (s .pre .0) (b .blamers .ensures) low, low)
+    let e = c .before .before .before .before in
+    let g = start e .pre .0 in
+    let q = known e in
+    (left-few g, g .room, blamed-below g (q .words) (q .sets), q .sets)
 
 returns : tie.Need-returns
 returns c =
@@ -151,10 +180,9 @@ returns-4 : tie.Need-returns-4
 returns-4 c =
     let e = c .before in
     let n = e .before .before .before in
-    let m = n .before .before in
-    let s = entry m in
+    let s = entry (n .before .before) in
     let k = n .moves2 .given .1 ∙ ap LookingAhead (e .enum-told4 .given .1) in
-    unlabels-as s k (W s) (c .step-back2 .result) (ahead-by-one (s .pre .0) (c .step-back2 .ensures) (fit m) (kept-as s k .words))
+    unlabels-as s k (W s) (c .step-back2 .result) (ahead-by-one (s .pre .0) (c .step-back2 .ensures) (kept-as s k .words))
 
 same-length-3 : tie.Need-same-length-3
 same-length-3 c = search needs
@@ -162,16 +190,12 @@ same-length-3 c = search needs
 returns-5 : tie.Need-returns-5
 returns-5 c =
     let j = c .before .before in
-    let b = j .before .before in
-    let e = b .before .before .before in
-    let n = e .before .before .before in
-    let m = n .before .before in
-    let s = entry m in
-    let k = ahead-sets n (e .enum-told5 .given .1) in
-    let q = kept-as s k in
+    let e = j .before .before .before .before .before in
+    let s = start e in
+    let q = known e in
     let u = j .jump-back2 .last .1 .1 .0 in
-    unlabels-as s k u (j .jump-back2 .result)
-    (ahead-by-sets (s .pre .0) (b .blamers .ensures) (fit m) (q .words) (q .sets) u (j .jump-back2 .result) (j .jump-back2 .ensures))
+    unlabels-as s (ahead-sets (e .before .before .before) (e .enum-told5 .given .1)) u (j .jump-back2 .result)
+    (ahead-by-sets (s .pre .0) (q .words) (q .sets) (fit (e .before .before .before .before .before)) u (j .jump-back2 .result) (j .jump-back2 .ensures))
 
 pub unlabel-spec : {M : Type 1} → statement M
 unlabel-spec =
@@ -191,10 +215,15 @@ unlabel-spec =
     enum-told-4
     step-back-requires-2
     enum-told-5
-    add-blamed
-    mul-blamed
-    slice-read-blamed
-    blamers-requires
+    add-last
+    mul-last
+    slice-read-last
+    add-jump-back-2
+    mul-jump-back-2
+    slice-read-jump-back-2
+    add-jump-back-3
+    mul-jump-back-3
+    slice-read-jump-back-3
     jump-back-requires-2
     returns
     same-length

@@ -72,7 +72,8 @@ returns-3 c =
     let f = c .before .before in
     let n = f .before .before in
     let s = entry (n .before .before) in
-    prepared-as s (n .enum-told3 .given .1) (prepared-looking-ahead (n .enum-told3 .given .0 .0) (s .pre .1 .1) (f .prepare-ahead .ensures .only) (T s) (f .prepare-ahead .ensures))
+    prepared-as s (n .enum-told3 .given .1)
+    (prepared-looking-ahead (n .enum-told3 .given .0 .0) (s .pre .1 .1) (only-widen (omega arith) (omega arith) (f .prepare-ahead .ensures .only)) (T s) (s .pre .0 .fewBoats) (f .prepare-ahead .ensures))
 
 pub prepare-spec : {M : Type 1} → statement M
 prepare-spec =

@@ -1,0 +1,4 @@
+pub mod Ones
+pub mod Sweeping
+pub mod Along
+pub mod Turns
