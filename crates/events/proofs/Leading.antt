@@ -14,18 +14,18 @@ use Rattle.events.specs.declared.Counts.{Counts}
 use Rattle.events.specs.declared.Counted.the-variants.{Within, Out}
 use Rattle.events.specs.Events.{Event, trial, check, trialsOf, checksOf, trials, checks, Search, _then_}
 use Rattle.events.specs.Allowances.{outcome, undecided}
-use Rattle.events.specs.Counts.{covered, withChecks, withTrials, trialCounted, checkCounted, checksCounted, Fits, counting, Makes, Leads, cutAt, UsedUp, StopsIn}
+use Rattle.events.specs.Counts.{covered, withChecks, withTrials, trialCounted, checkCounted, checksCounted, allChecks, Fits, counting, Makes, Leads, cutAt, UsedUp, StopsIn}
 use Rattle.events.proofs.Counting.{trials-append, checks-append, length-counts}
 use Rattle.events.proofs.Cutting.{cut-no-trial, cut-no-check, cut-on, Way, fits, no-check, no-trial, way}
 
 -- ---- what a cover says
-within-case : (b : Bool) (p q k : Counts) → covered b p q ≡ Within k → (b ≡ true) × (p ≡ k)
-within-case true p q k e = (refl, cc)
-within-case false p q k e = let z : _≡_ {A = ℕ} 0 1 = cc in absurd (omega arith)
+within-case : (b : Bool) (p k : Counts) → covered b p ≡ Within k → (b ≡ true) × (p ≡ k)
+within-case true p k e = (refl, cc)
+within-case false p k e = let z : _≡_ {A = ℕ} 0 1 = cc in absurd (omega arith)
 
-out-case : (b : Bool) (p q k : Counts) → covered b p q ≡ Out k → (b ≡ false) × (q ≡ k)
-out-case true p q k e = let z : _≡_ {A = ℕ} 0 1 = cc in absurd (omega arith)
-out-case false p q k e = (refl, cc)
+out-case : (b : Bool) (p : Counts) → covered b p ≡ Out → b ≡ false
+out-case true p e = let z : _≡_ {A = ℕ} 0 1 = cc in absurd (omega arith)
+out-case false p e = refl
 
 -- events before events before a search
 pub then-append : (es fs : List Event) (z : Search) → ((es ++ fs) then z) ≡ (es then (fs then z))
@@ -61,7 +61,7 @@ module _ (m k : Counts) (f : Fits m) where
   pub makes-trial : (i a : ℕ) → trialCounted m ≡ Within k → Makes m (trial i a ∷ []) k
   unfolding checksOf trialsOf
   makes-trial i a e =
-      let w = within-case _ (withTrials m (m .trials + 1)) m k e in
+      let w = within-case _ (withTrials m (m .trials + 1)) k e in
       let l = ltb-true (m .trials) (m .«most_trials») (w .0) in
       subst (λ (n : Counts). Makes m (trial i a ∷ []) n) (w .1)
       (record {
@@ -72,7 +72,7 @@ module _ (m k : Counts) (f : Fits m) where
   pub makes-check : (h x i a : ℕ) → checkCounted m ≡ Within k → Makes m (check h x i a ∷ []) k
   unfolding checksOf trialsOf
   makes-check h x i a e =
-      let w = within-case _ (withChecks m (m .checks + 1)) m k e in
+      let w = within-case _ (withChecks m (m .checks + 1)) k e in
       let l = ltb-true (m .checks) (m .«most_checks») (w .0) in
       subst (λ (n : Counts). Makes m (check h x i a ∷ []) n) (w .1)
       (record {
@@ -80,12 +80,23 @@ module _ (m k : Counts) (f : Fits m) where
         fits = record { checksFit = omega arith; trialsFit = f .trialsFit };
       })
 
-  pub trial-stops : (i a : ℕ) (es : List Event) → trialCounted m ≡ Out k → StopsIn m (trial i a ∷ es) Trials 0 k
-  trial-stops i a es e =
-      let w = out-case _ (withTrials m (m .trials + 1)) m k e in
-      let l = ltb-false (m .trials) (m .«most_trials») (w .0) in
-      subst (StopsIn m (trial i a ∷ es) Trials 0) (w .1)
+  -- many checks at once
+  pub makes-checks : (ks : List Event) (due : ℕ) → trials ks ≡ 0 → checks ks ≡ due → checksCounted m due ≡ Within k → Makes m ks k
+  makes-checks ks due none all e =
+      let w = within-case _ (withChecks m (m .checks + due)) k e in
+      let l = leb-true due (m .«most_checks» - m .checks) (w .0) in
+      subst (Makes m ks) (w .1)
       (record {
+        counted = same-counts m (ap (λ (n : ℕ). m .checks + n) (sym all)) (sym (ap (λ (n : ℕ). m .trials + n) none ∙ add-zero (m .trials)));
+        fits = record { checksFit = omega (arith, f .checksFit); trialsFit = f .trialsFit };
+      })
+
+-- ---- what is not made: one event leaves the counts, many checks use the allowance up
+module _ (m : Counts) (f : Fits m) where
+  pub trial-stops : (i a : ℕ) (es : List Event) → trialCounted m ≡ Out → StopsIn m (trial i a ∷ es) Trials 0 m
+  trial-stops i a es e =
+      let l = ltb-false (m .trials) (m .«most_trials») (out-case _ (withTrials m (m .trials + 1)) e) in
+      record {
         before = [];
         due = trial i a;
         behind = es;
@@ -93,14 +104,12 @@ module _ (m k : Counts) (f : Fits m) where
         count = refl;
         makes = makes-none m f;
         usedUp = (refl, omega (arith, f .trialsFit));
-      })
+      }
 
-  pub check-stops : (h x i a : ℕ) (es : List Event) → checkCounted m ≡ Out k → StopsIn m (check h x i a ∷ es) Checks 0 k
+  pub check-stops : (h x i a : ℕ) (es : List Event) → checkCounted m ≡ Out → StopsIn m (check h x i a ∷ es) Checks 0 m
   check-stops h x i a es e =
-      let w = out-case _ (withChecks m (m .checks + 1)) m k e in
-      let l = ltb-false (m .checks) (m .«most_checks») (w .0) in
-      subst (StopsIn m (check h x i a ∷ es) Checks 0) (w .1)
-      (record {
+      let l = ltb-false (m .checks) (m .«most_checks») (out-case _ (withChecks m (m .checks + 1)) e) in
+      record {
         before = [];
         due = check h x i a;
         behind = es;
@@ -108,31 +117,14 @@ module _ (m k : Counts) (f : Fits m) where
         count = refl;
         makes = makes-none m f;
         usedUp = (refl, omega (arith, f .checksFit));
-      })
+      }
 
-  -- a check that is not made leaves the counts
-  pub check-out : checkCounted m ≡ Out k → m ≡ k
-  check-out e = out-case (ltb (m .checks) (m .«most_checks»)) (withChecks m (m .checks + 1)) m k e .1
-
-  -- many checks at once
   module _ (ks : List Event) (due : ℕ) (none : trials ks ≡ 0) (all : checks ks ≡ due) where
-    pub makes-checks : checksCounted m due ≡ Within k → Makes m ks k
-    makes-checks e =
-        let w = within-case _ (withChecks m (m .checks + due)) (withChecks m (m .«most_checks»)) k e in
-        let l = leb-true due (m .«most_checks» - m .checks) (w .0) in
-        subst (Makes m ks) (w .1)
-        (record {
-          counted = same-counts m (ap (λ (n : ℕ). m .checks + n) (sym all)) (sym (ap (λ (n : ℕ). m .trials + n) none ∙ add-zero (m .trials)));
-          fits = record { checksFit = omega (arith, f .checksFit); trialsFit = f .trialsFit };
-        })
-
-    pub checks-stop : checksCounted m due ≡ Out k → StopsIn m ks Checks (k .checks - m .checks) k
-    checks-stop e =
-        let w = out-case _ (withChecks m (m .checks + due)) (withChecks m (m .«most_checks»)) k e in
-        subst (λ (n : Counts). StopsIn m ks Checks (n .checks - m .checks) n) (w .1) (by (way (m .«most_checks» - m .checks) 0 ks) none all (leb-false due _ (w .0)))
+    pub checks-stop : checksCounted m due ≡ Out → StopsIn m ks Checks (m .«most_checks» - m .checks) (allChecks m)
+    checks-stop e = by (way (m .«most_checks» - m .checks) 0 ks) none all (leb-false due _ (out-case _ (withChecks m (m .checks + due)) e))
       where
         by : {es : List Event} → Way (m .«most_checks» - m .checks) 0 es → trials es ≡ 0 → checks es ≡ due → m .«most_checks» - m .checks < due →
-            StopsIn m es Checks (m .«most_checks» - m .checks) (withChecks m (m .«most_checks»))
+            StopsIn m es Checks (m .«most_checks» - m .checks) (allChecks m)
         by (fits es c n) z d l = absurd (omega arith)
         by (no-trial pre post i a n c) z d l = absurd (omega (arith, trials-append pre (trial i a ∷ post), one-trial i a post))
         by (no-check pre post h x i a c n) z d l =

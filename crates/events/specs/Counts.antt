@@ -16,9 +16,9 @@ use Rattle.events.specs.Allowances.{Outcome, cutFrom}
 abbrev pub fresh : (checks trials : ℕ) → Counts
 fresh checks trials = record { checks = 0; trials = 0; «most_checks» = checks; «most_trials» = trials }
 
-abbrev pub covered : Bool → (within out : Counts) → Counted
-covered true within out = Within within
-covered false within out = Out out
+abbrev pub covered : Bool → (within : Counts) → Counted
+covered true within = Within within
+covered false within = Out
 
 abbrev pub withChecks : Counts → ℕ → Counts
 withChecks m checks = record { checks = checks; trials = m .trials; «most_checks» = m .«most_checks»; «most_trials» = m .«most_trials» }
@@ -27,14 +27,18 @@ abbrev pub withTrials : Counts → ℕ → Counts
 withTrials m trials = record { checks = m .checks; trials = trials; «most_checks» = m .«most_checks»; «most_trials» = m .«most_trials» }
 
 abbrev pub trialCounted : Counts → Counted
-trialCounted m = covered (ltb (m .trials) (m .«most_trials»)) (withTrials m (m .trials + 1)) m
+trialCounted m = covered (ltb (m .trials) (m .«most_trials»)) (withTrials m (m .trials + 1))
 
 abbrev pub checkCounted : Counts → Counted
-checkCounted m = covered (ltb (m .checks) (m .«most_checks»)) (withChecks m (m .checks + 1)) m
+checkCounted m = covered (ltb (m .checks) (m .«most_checks»)) (withChecks m (m .checks + 1))
 
--- so many checks, one after the other: the allowance is used up where it does not cover them all
+-- so many checks, one after the other
 abbrev pub checksCounted : Counts → (due : ℕ) → Counted
-checksCounted m due = covered (leb due (m .«most_checks» - m .checks)) (withChecks m (m .checks + due)) (withChecks m (m .«most_checks»))
+checksCounted m due = covered (leb due (m .«most_checks» - m .checks)) (withChecks m (m .checks + due))
+
+-- .. and where they are not all covered, as many as the allowance has left: it is used up then
+abbrev pub allChecks : Counts → Counts
+allChecks m = withChecks m (m .«most_checks»)
 
 -- no count has passed its allowance
 pub record Fits (m : Counts) : Type 0 where

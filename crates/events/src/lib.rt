@@ -1,7 +1,7 @@
 // What a search does that is counted, and the counts beside their allowances.
 ghost use mathlib.Core.Path.{_≡_};
 ghost use Prim.Native.Nat.{_≤_};
-ghost use Rattle.events.specs.Counts.{fresh, trialCounted, checkCounted, checksCounted};
+ghost use Rattle.events.specs.Counts.{fresh, trialCounted, checkCounted, checksCounted, allChecks};
 
 // The checks and trials made, each beside its allowance. It goes by value.
 pub struct Counts {
@@ -11,10 +11,10 @@ pub struct Counts {
     pub most_trials: u64,
 }
 
-// The counts after what was due, or those reached where an allowance did not cover it.
+// The counts after what was due; or it is not covered, and the counts are as they were. (They are not handed back then: the search's loops would have to choose between two.)
 pub enum Counted {
     Within(Counts),
-    Out(Counts),
+    Out,
 }
 
 impl Counts {
@@ -43,7 +43,7 @@ impl Counts {
                 most_trials: most,
             })
         } else {
-            Counted::Out(self)
+            Counted::Out
         }
     }
 
@@ -61,7 +61,7 @@ impl Counts {
                 most_trials: self.most_trials,
             })
         } else {
-            Counted::Out(self)
+            Counted::Out
         }
     }
 
@@ -80,12 +80,20 @@ impl Counts {
                 most_trials: self.most_trials,
             })
         } else {
-            Counted::Out(Counts {
-                checks: most,
-                trials: self.trials,
-                most_checks: most,
-                most_trials: self.most_trials,
-            })
+            Counted::Out
+        }
+    }
+
+    // More checks were due than the allowance has left: those that it has left are made.
+    pub fn all_checks(self) -> Counts
+        ensures { λ r. ⌜ r ≡ allChecks self ⌝ }
+    {
+        let most = self.most_checks;
+        Counts {
+            checks: most,
+            trials: self.trials,
+            most_checks: most,
+            most_trials: self.most_trials,
         }
     }
 }

@@ -19,7 +19,9 @@ use Rattle.visits.specs.declared.Backward.{Backward}
 use Rattle.visits.specs.declared.Backward.the-variants.{OneBack, BySets}
 use Rattle.visits.specs.Visits.{state}
 use Rattle.moves.specs.Memory.{SetsKept}
-use Rattle.labelling.specs.Stored.{passedWords, setStored, begunSet}
+use Rattle.moves.specs.declared.Moves.{Moves}
+use Rattle.moves.specs.declared.Moves.the-variants.{LookingBack, Marking, LookingAhead}
+use Rattle.labelling.specs.Stored.{passedWords, setStored, keptWords, begunSet}
 
 -- ---- the sets, from words that agree with those before: of boat i, whose set is s, ..
 module _ (w u : List ℕ) (i s : ℕ) (own : word u (setAt i) ≡ s) (below : (k : ℕ) → k < i → word u (setAt k) ≡ word w (setAt k)) where
@@ -154,6 +156,12 @@ module _ {w v : List ℕ} {i : ℕ} (c : Visiting w v i) (b s : ℕ) {u : List �
 pub stored-after : {i : ℕ} (v : List ℕ) (b s k : ℕ) → i < 64 → 129 ≤ k → word (passedWords v i b s) k ≡ word v k
 stored-after {i} v b s k few lo =
     getD-set-other (set (set v i b) (setAt i) s) (nextSetAt i) k 0 0 (omega arith) ∙ getD-set-other (set v i b) (setAt i) k s 0 (omega arith) ∙ getD-set-other v i k b 0 (omega arith)
+
+-- no word comes or goes where a set is kept
+pub kept-long : (moves : Moves) (w : List ℕ) (i s : ℕ) → length (keptWords moves w i s) ≡ length w
+kept-long (LookingBack backward) w i s = length-set w (setAt i) s
+kept-long Marking w i s = refl
+kept-long (LookingAhead backward) w i s = length-set w (setAt i) s
 
 -- the set s is stored, and no slot
 module _ {w v : List ℕ} {i : ℕ} (c : Visiting w v i) (s : ℕ) where

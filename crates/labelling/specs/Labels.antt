@@ -12,6 +12,7 @@ use Rattle.words.specs.Layout.{ChangedOnly}
 use Rattle.visits.specs.Visits.{Passes, Spends, RunsOut}
 use Rattle.moves.specs.declared.Moves.{Moves}
 use Rattle.moves.specs.Memory.{stepsBy, memory, Kept}
+use Rattle.labelling.specs.Stored.{keptWords}
 use Rattle.labelling.specs.declared.Labelled.{Labelled}
 use Rattle.labelling.specs.declared.Labelled.the-variants.{Passed, Spent, OutOfChecks, OutOfTrials}
 
@@ -39,8 +40,9 @@ module _ (moves : Moves) (t : Tables) (w : List ℕ) (i a : ℕ) (m : Counts) wh
     pub kept : Kept moves t w′ i
     pub runsOut : RunsOut t (stepsBy moves t) (take i w) a (memory moves w i) m which b (memory moves w′ i) made k
 
+  -- where the run ends, the words are still to be given the set in hand
   abbrev pub Labels : (w′ : List ℕ) → Labelled → Type 0
   Labels w′ (Passed k) = MovesOn w′ k
   Labels w′ (Spent k) = NoneLeft w′ k
-  Labels w′ (OutOfChecks k b made) = Halts w′ Checks b made k
-  Labels w′ (OutOfTrials k b) = Halts w′ Trials b 0 k
+  Labels w′ (OutOfChecks k s b made) = Halts (keptWords moves w′ i s) Checks b made k
+  Labels w′ (OutOfTrials k s b) = Halts (keptWords moves w′ i s) Trials b 0 k

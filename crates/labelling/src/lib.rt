@@ -10,15 +10,16 @@ mod storing;
 
 use events::Counts;
 use moves::Moves;
+pub use storing::keep_set;
 use visits::Backward;
 use visits::Visited;
 
-// What the forward move of every method answers. Where the run ends, the slot at hand; inside its step, how many of the step's events are made.
+// What the forward move of every method answers. Where the run ends, the set in hand, which is not stored yet, and the slot; inside its step, how many of the step's events are made.
 pub enum Labelled {
     Passed(Counts),
     Spent(Counts),
-    OutOfChecks(Counts, u64, u64),
-    OutOfTrials(Counts, u64),
+    OutOfChecks(Counts, u64, u64, u64),
+    OutOfTrials(Counts, u64, u64),
 }
 
 fn label_back(
@@ -47,14 +48,8 @@ fn label_back(
             storing::store_set(i, set, work);
             Labelled::Spent(k)
         }
-        Visited::OutOfChecks(k, set, slot, made) => {
-            storing::store_set(i, set, work);
-            Labelled::OutOfChecks(k, slot, made)
-        }
-        Visited::OutOfTrials(k, set, slot) => {
-            storing::store_set(i, set, work);
-            Labelled::OutOfTrials(k, slot)
-        }
+        Visited::OutOfChecks(k, set, slot, made) => Labelled::OutOfChecks(k, set, slot, made),
+        Visited::OutOfTrials(k, set, slot) => Labelled::OutOfTrials(k, set, slot),
     }
 }
 
@@ -80,8 +75,8 @@ fn label_marked(
             Labelled::Passed(k)
         }
         Visited::Spent(k, _) => Labelled::Spent(k),
-        Visited::OutOfChecks(k, _, slot, made) => Labelled::OutOfChecks(k, slot, made),
-        Visited::OutOfTrials(k, _, slot) => Labelled::OutOfTrials(k, slot),
+        Visited::OutOfChecks(k, set, slot, made) => Labelled::OutOfChecks(k, set, slot, made),
+        Visited::OutOfTrials(k, set, slot) => Labelled::OutOfTrials(k, set, slot),
     }
 }
 
@@ -113,14 +108,8 @@ fn label_ahead(
             storing::store_set(i, set, work);
             Labelled::Spent(k)
         }
-        Visited::OutOfChecks(k, set, slot, made) => {
-            storing::store_set(i, set, work);
-            Labelled::OutOfChecks(k, slot, made)
-        }
-        Visited::OutOfTrials(k, set, slot) => {
-            storing::store_set(i, set, work);
-            Labelled::OutOfTrials(k, slot)
-        }
+        Visited::OutOfChecks(k, set, slot, made) => Labelled::OutOfChecks(k, set, slot, made),
+        Visited::OutOfTrials(k, set, slot) => Labelled::OutOfTrials(k, set, slot),
     }
 }
 

@@ -3,7 +3,8 @@ ghost use mathlib.Core.Path.{_≡_};
 ghost use Prim.Native.Nat.{_≤_, _<_};
 ghost use lib.ListN.{length};
 ghost use Rattle.words.specs.Places.{used};
-ghost use Rattle.labelling.specs.Stored.{passedWords, setStored, begunSet};
+ghost use Rattle.labelling.specs.Stored.{passedWords, setStored, keptWords, begunSet};
+use moves::Moves;
 use visits::Backward;
 use words::Words;
 
@@ -18,7 +19,7 @@ pub fn begun_set(backward: Backward, i: usize, work: &[u64]) -> u64
     }
 }
 
-// Boat i keeps its set: it has no slot left, or the run ends at one.
+// Boat i has no slot left.
 pub fn store_set(i: usize, set: u64, work: &mut [u64])
     requires { ⌜ (i < 64) × (used ≤ length (now work)) ⌝ }
     ensures { λ _. ⌜ now (work .exit) ≡ setStored (now (work .entry)) i set ⌝ }
@@ -34,4 +35,16 @@ pub fn store_passed(i: usize, slot: u64, members: u64, work: &mut [u64])
     work[i] = slot;
     work[Words::SETS + i] = members;
     work[Words::NEXT_SET + i] = 0;
+}
+
+// The run has ended at a slot of boat i, with this set in hand.
+pub fn keep_set(moves: Moves, i: usize, set: u64, work: &mut [u64])
+    requires { ⌜ (i < 64) × (used ≤ length (now work)) ⌝ }
+    ensures { λ _. ⌜ now (work .exit) ≡ keptWords moves (now (work .entry)) i set ⌝ }
+{
+    match moves {
+        Moves::LookingBack(_) => store_set(i, set, work),
+        Moves::Marking => {}
+        Moves::LookingAhead(_) => store_set(i, set, work),
+    }
 }

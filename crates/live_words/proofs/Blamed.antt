@@ -1,18 +1,20 @@
 -- The boats to blame, written beside the live words of boat i's pairs, one after the other.
 use mathlib.Core.Path.{_≡_, refl, sym, ap, _∙_, subst}
 use mathlib.Core.Logic.{_⊎_, inl, inr}
-use mathlib.Core.Bool.{Bool, true, false}
+use mathlib.Core.Bool.{Bool, true, false, not}
 use mathlib.Core.List.{List}
 use Prim.Native.Nat.{ℕ, suc, _+_, _≤_, _<_}
 use native.Mathlib.Omega.{arith}
 use native.Mathlib.Decide.{ℕ-discrete}
 use native.Mathlib.Nat.{le-refl, eq-or-lt-of-le}
+use lib.Dec.{eqb}
 use lib.ListN.{set}
 use lib.Seq.{getD-set-same, getD-set-other}
+use borrow.Author.Tests.{eqb-true, eqb-false}
 use Rattle.problem.specs.Tables.{Tables, boats, higher, isListed}
 use Rattle.words.specs.Places.{used, startAt, endAt, prevAt, liveAt, blameAt}
 use Rattle.words.specs.Layout.{word, ChangedOnly, firstPair, leftAt}
-use Rattle.words.specs.Sets.{WithMember}
+use Rattle.words.specs.Sets.{WithMemberIf}
 use Rattle.words.proofs.ChangedOnly.{only-refl, only-trans, only-set}
 use Rattle.words.proofs.Firsts.{first-le, first-next}
 use Rattle.words.proofs.Pairs.{pair-listed, listed-pair}
@@ -92,12 +94,16 @@ module _ {t : Tables} {i : ℕ} {w₀ w : List ℕ} {e k : ℕ} (g : Blaming t w
         by q lo hi (yes s) = rw (s, getD-set-same w (blameAt (liveAt k)) v 0 (omega (arith, f .few, g .room, f .only .long))) lost
         by q lo hi (no ne) = rw (getD-set-other w (blameAt (liveAt k)) (blameAt (liveAt q)) v 0 (omega arith)) (f .done q lo (omega arith))
 
-    pub blamed-same : word w (word w (prevAt k)) ≡ word w (liveAt k) → {v : ℕ} → v ≡ word w (blameAt (word w (prevAt k))) → BlamedTo t i w₀ (set w (blameAt (liveAt k)) v) e (k + 1)
-    blamed-same s z = blamed-by (rw z (lost-same t w₀ j was (sym found ∙ s ∙ leaves)))
+    -- the word before is the same: boat i struck no slot
+    abbrev same : Bool
+    same = eqb (word w (word w (prevAt k))) (word w (liveAt k))
 
-    pub blamed-more : (word w (word w (prevAt k)) ≡ word w (liveAt k) → ⊥) → {r : ℕ} → WithMember (word w (blameAt (word w (prevAt k)))) i r → {v : ℕ} → v ≡ r →
-        BlamedTo t i w₀ (set w (blameAt (liveAt k)) v) e (k + 1)
-    blamed-more ne m z = blamed-by (rw z (lost-more t w₀ j was (λ s. ne (found ∙ s ∙ sym leaves)) m))
+    pub blamed-next : (r : ℕ) → WithMemberIf (not same) (word w (blameAt (word w (prevAt k)))) i r → BlamedTo t i w₀ (set w (blameAt (liveAt k)) r) e (k + 1)
+    blamed-next r m = blamed-by (by same refl m)
+      where
+        by : (b : Bool) → same ≡ b → WithMemberIf (not b) (word w (blameAt (word w (prevAt k)))) i r → LostAt t w₀ (suc i) j r
+        by true s z = rw z (lost-same t w₀ j was (sym found ∙ eqb-true _ _ s ∙ leaves))
+        by false s z = lost-more t w₀ j was (λ x. eqb-false _ _ s (found ∙ x ∙ sym leaves)) z
 
   -- ---- at the end
   pub blamed-all : e ≤ k → Blames t w (suc i)

@@ -24,11 +24,8 @@ fn blame_listed(sizes: &[u8], pairs: &[u8], rows: &[u64], i: usize, work: &mut [
         let at = Words::LIVES + pair;
         let before = work[Words::PREVS + pair] as usize;
         let was = work[Words::BLAMES + before];
-        work[Words::BLAMES + at] = if work[before] == work[at] {
-            was
-        } else {
-            words::with_member(was, i)
-        };
+        let struck = work[before] != work[at];
+        work[Words::BLAMES + at] = words::with_member_if(was, i, struck);
         pair += 1;
     }
 }

@@ -173,9 +173,9 @@ module _ {backward : Backward} {t : Tables} {w : List ℕ} {i : ℕ} (ready : Re
           };
         }
 
-    pub no-trial : {r : Counted} {x : Counts} → r ≡ trialCounted k → r ≡ Out x →
-        RunsOut t (stepsOver t (aheadByPlan t) backward) (take i w) a₀ (state backward (setWords w i s₀)) m Trials a (state backward (setWords w i s)) 0 x
-    no-trial {x = x} e f = stopped (trial-stops k x (c .makes .fits) i a _ (sym e ∙ f))
+    pub no-trial : {r : Counted} → r ≡ trialCounted k → r ≡ Out →
+        RunsOut t (stepsOver t (aheadByPlan t) backward) (take i w) a₀ (state backward (setWords w i s₀)) m Trials a (state backward (setWords w i s)) 0 k
+    no-trial e f = stopped (trial-stops k (c .makes .fits) i a _ (sym e ∙ f))
 
     pub trial-made : {r : Counted} {x : Counts} → r ≡ trialCounted k → r ≡ Within x → Makes k (trial i a ∷ []) x
     trial-made {x = x} e f = makes-trial k x (c .makes .fits) i a (sym e ∙ f)

@@ -45,7 +45,7 @@ pub fn visit(
     while slot < size {
         match counts.trial() {
             Counted::Within(k) => counts = k,
-            Counted::Out(k) => return Visited::OutOfTrials(k, set, slot),
+            Counted::Out => return Visited::OutOfTrials(counts, set, slot),
         }
         match sweeping::sweep(sizes, pairs, rows, i, own, slot, counts, work) {
             Swept::Clear(k) => return Visited::Passed(k, set, slot),

@@ -39,7 +39,7 @@ pub fn visit(
     while slot < size {
         match counts.trial() {
             Counted::Within(k) => counts = k,
-            Counted::Out(k) => return Visited::OutOfTrials(k, set, slot),
+            Counted::Out => return Visited::OutOfTrials(counts, set, slot),
         }
         let tried = counts.checks;
         let mut at = first;
@@ -56,9 +56,9 @@ pub fn visit(
                     counts = k;
                     break 'boats h;
                 }
-                Look::OutOfChecks(k) => {
-                    let made = 1 + (k.checks - tried);
-                    return Visited::OutOfChecks(k, set, slot, made);
+                Look::OutOfChecks => {
+                    let made = 1 + (counts.checks - tried);
+                    return Visited::OutOfChecks(counts, set, slot, made);
                 }
             }
             at += 1;

@@ -126,7 +126,14 @@ module _ {t : Tables} {v : List ℕ} {i a : ℕ} {m : Counts} {w : List ℕ} {b 
   stopped e z =
       record { reached = k; comes = x .come .comes; stops = record { inside = inside; events = _; plan = _; choice = _; after = _; steps = e; stops = z } }
 
-  -- ---- the trial is counted, or not covered
+  -- ---- the trial is not covered, or counted
+  pub no-trial : (r : Counted) → r ≡ trialCounted k → r ≡ Out → RunsOut t (bm t) (take i v) a (marksOf v) m Trials b (marksOf w) 0 k
+  no-trial r e g = by (decLt (word w (markAt i b)) (word v (lowAt i)))
+    where
+      by : Dec (word w (markAt i b) < word v (lowAt i)) → RunsOut t (bm t) (take i v) a (marksOf v) m Trials b (marksOf w) 0 k
+      by (yes l) = stopped (below-steps l) (trial-stops k (x .come .comes .makes .fits) i b _ (sym e ∙ g))
+      by (no n) = stopped (looks-steps (omega arith)) (trial-stops k (x .come .comes .makes .fits) i b _ (sym e ∙ g))
+
   module _ (r : Counted) (k′ : Counts) (e : r ≡ trialCounted k) where
     pub tried : r ≡ Within k′ → Makes k (trial i b ∷ []) k′
     tried g = makes-trial k k′ (x .come .comes .makes .fits) i b (sym e ∙ g)
@@ -134,13 +141,6 @@ module _ {t : Tables} {v : List ℕ} {i a : ℕ} {m : Counts} {w : List ℕ} {b 
     -- the mark tells that the slot fails
     pub skips : r ≡ Within k′ → word w (markAt i b) < word v (lowAt i) → Come t v i a m w (b + 1) k′
     skips g l = record { only = x .come .only; comes = rw add-one (come-more t (bm t) (x .come .comes) (below-steps l) (tried g)) }
-
-    pub no-trial : r ≡ Out k′ → RunsOut t (bm t) (take i v) a (marksOf v) m Trials b (marksOf w) 0 k′
-    no-trial g = by (decLt (word w (markAt i b)) (word v (lowAt i)))
-      where
-        by : Dec (word w (markAt i b) < word v (lowAt i)) → RunsOut t (bm t) (take i v) a (marksOf v) m Trials b (marksOf w) 0 k′
-        by (yes l) = stopped (below-steps l) (trial-stops k k′ (x .come .comes .makes .fits) i b _ (sym e ∙ g))
-        by (no n) = stopped (looks-steps (omega arith)) (trial-stops k k′ (x .come .comes .makes .fits) i b _ (sym e ∙ g))
 
   -- ---- the mark does not tell, and boats are looked at
   module _ (l : word v (lowAt i) ≤ word w (markAt i b)) {k′ : Counts} (made : Makes k (trial i b ∷ []) k′) where

@@ -60,7 +60,7 @@ pub fn visit(
     while slot < size {
         match counts.trial() {
             Counted::Within(k) => counts = k,
-            Counted::Out(k) => return Visited::OutOfTrials(k, 0, slot),
+            Counted::Out => return Visited::OutOfTrials(counts, 0, slot),
         }
         let mark = Words::MARKS + 64 * i + (slot as usize);
         if low <= work[mark] {
@@ -76,10 +76,10 @@ pub fn visit(
                         counts = k;
                         break 'boats h;
                     }
-                    Look::OutOfChecks(k) => {
+                    Look::OutOfChecks => {
                         // Of this step the trial is made, and the checks since.
-                        let made = 1 + (k.checks - tried);
-                        return Visited::OutOfChecks(k, 0, slot, made);
+                        let made = 1 + (counts.checks - tried);
+                        return Visited::OutOfChecks(counts, 0, slot, made);
                     }
                 }
                 h += 1;

@@ -19,7 +19,7 @@ use Rattle.problem.proofs.Starts.{start-next, start-within}
 use Rattle.events.specs.Events.{Event, trials, checks}
 use Rattle.events.specs.declared.Counts.{Counts}
 use Rattle.events.specs.declared.Counted.the-variants.{Within, Out}
-use Rattle.events.specs.Counts.{checksCounted, Makes, StopsIn}
+use Rattle.events.specs.Counts.{checksCounted, allChecks, Makes, StopsIn}
 use Rattle.events.proofs.Counting.{trials-append}
 use Rattle.events.proofs.Leading.{makes-append, makes-eq, makes-checks, checks-stop, stops-behind, stops-before, stops-eq, stops-count, length-made, checks-made}
 use Rattle.methods.specs.Choices.{choices, mayStand}
@@ -123,14 +123,14 @@ module _ {t : Tables} {w₀ : List ℕ} {i a : ℕ} {m : Counts} {w : List ℕ} 
   as-many = checks-are t (take i w₀) a v j few (u .fits) live-bits
 
   -- ---- the checks are not within their allowance
-  pub runs-out : (x : Counts) → checksCounted n (ones v) ≡ Out x → StopsIn m (sweepOf t (take i w₀) a .checks) Checks (x .checks - m .checks) x
-  runs-out x e =
+  pub runs-out : checksCounted n (ones v) ≡ Out → StopsIn m (sweepOf t (take i w₀) a .checks) Checks (n .«most_checks» - m .checks) (allChecks n)
+  runs-out e =
       let z = at-checks t (take i w₀) a j named is-listed in
       let s : sweepOf t (take i w₀) a .checks ≡ u .along .made ++ (due ++ z .0) =
       ap (λ (r : Swept). r .checks) reached ∙ ap (λ (es : List Event). u .along .made ++ es) (z .1) in
-      let c = checks-stop n x (u .along .makes .fits) due (ones v) no-trials as-many e in
-      let d : length (u .along .made) + (x .checks - n .checks) ≡ x .checks - m .checks =
-      omega (arith, length-made (u .along .makes) (u .along .none), checks-made (u .along .makes), checks-made (c .makes)) in
+      let c = checks-stop n (u .along .makes .fits) due (ones v) no-trials as-many e in
+      let d : length (u .along .made) + (n .«most_checks» - n .checks) ≡ n .«most_checks» - m .checks =
+      omega (arith, length-made (u .along .makes) (u .along .none), checks-made (u .along .makes), u .along .makes .fits .checksFit) in
       stops-eq (sym s) (stops-count d (stops-behind (u .along .makes) (stops-before (z .0) c)))
 
   -- ---- the row of slot a of boat i

@@ -74,7 +74,7 @@ pub fn sweep(
         let live = work[work[Words::PREVS + pair] as usize];
         match counts.check_each(u64::count_ones(live) as u64) {
             Counted::Within(k) => counts = k,
-            Counted::Out(k) => return Swept::OutOfChecks(k),
+            Counted::Out => return Swept::OutOfChecks(counts.all_checks()),
         }
         let stays = live & rows[at];
         work[Words::LIVES + pair] = stays;

@@ -17,7 +17,7 @@ use Rattle.events.specs.declared.Counted.the-variants.{Within, Out as CountedOu
 use Rattle.events.specs.Events.{Event, check, trialsOf, trials}
 use Rattle.events.specs.Counts.{checkCounted, Fits, Makes, StopsIn}
 use Rattle.events.proofs.Counting.{trials-append}
-use Rattle.events.proofs.Leading.{makes-none, makes-append, makes-eq, makes-check, check-stops, check-out, stops-behind, stops-eq, stops-count, length-made}
+use Rattle.events.proofs.Leading.{makes-none, makes-append, makes-eq, makes-check, check-stops, stops-behind, stops-eq, stops-count, length-made}
 use Rattle.methods.specs.Choices.{mayStand}
 use Rattle.methods.specs.BT.{Looked, lookAt, lookBack}
 use Rattle.words.specs.Layout.{word}
@@ -34,20 +34,19 @@ lookOf true may m = checkedLook may (checkCounted m)
 allowed-case : (o : Bool) (c : Counted) (k : Counts) → checkedLook o c ≡ Allowed k → (o ≡ true) × (c ≡ Within k)
 allowed-case true (Within n) k e = (refl, cc)
 allowed-case false (Within n) k e = let z : _≡_ {A = ℕ} 0 1 = cc in absurd (omega arith)
-allowed-case true (CountedOut n) k e = let z : _≡_ {A = ℕ} 0 1 = cc in absurd (omega arith)
-allowed-case false (CountedOut n) k e = let z : _≡_ {A = ℕ} 0 1 = cc in absurd (omega arith)
+allowed-case true CountedOut k e = let z : _≡_ {A = ℕ} 0 1 = cc in absurd (omega arith)
+allowed-case false CountedOut k e = let z : _≡_ {A = ℕ} 0 1 = cc in absurd (omega arith)
 
 forbidden-case : (o : Bool) (c : Counted) (k : Counts) → checkedLook o c ≡ Forbidden k → (o ≡ false) × (c ≡ Within k)
 forbidden-case true (Within n) k e = let z : _≡_ {A = ℕ} 0 1 = cc in absurd (omega arith)
 forbidden-case false (Within n) k e = (refl, cc)
-forbidden-case true (CountedOut n) k e = let z : _≡_ {A = ℕ} 0 1 = cc in absurd (omega arith)
-forbidden-case false (CountedOut n) k e = let z : _≡_ {A = ℕ} 0 1 = cc in absurd (omega arith)
+forbidden-case true CountedOut k e = let z : _≡_ {A = ℕ} 0 1 = cc in absurd (omega arith)
+forbidden-case false CountedOut k e = let z : _≡_ {A = ℕ} 0 1 = cc in absurd (omega arith)
 
-out-case : (o : Bool) (c : Counted) (k : Counts) → checkedLook o c ≡ OutOfChecks k → c ≡ CountedOut k
-out-case true (Within n) k e = let z : _≡_ {A = ℕ} 0 1 = cc in absurd (omega arith)
-out-case false (Within n) k e = let z : _≡_ {A = ℕ} 0 1 = cc in absurd (omega arith)
-out-case true (CountedOut n) k e = cc
-out-case false (CountedOut n) k e = cc
+out-case : (o : Bool) (c : Counted) → checkedLook o c ≡ OutOfChecks → c ≡ CountedOut
+out-case true (Within n) e = let z : _≡_ {A = ℕ} 0 1 = cc in absurd (omega arith)
+out-case false (Within n) e = let z : _≡_ {A = ℕ} 0 1 = cc in absurd (omega arith)
+out-case o CountedOut e = refl
 
 -- ---- checks that are made before what is found further on
 abbrev pub behind : List Event → Looked → Looked
@@ -155,18 +154,19 @@ module _ {t : Tables} {w : List ℕ} {i a : ℕ} {whole : Looked} {m : Counts} {
               let s = open-look true false el (q .0) in
               (ap (λ (x : Looked). x .failing) s, makes-eq (sym (ap (λ (x : Looked). x .checks) s)) (counted (q .1)))
 
-      pub looks-out : r ≡ OutOfChecks k → StopsIn m (whole .checks) Checks (k .checks - m .checks) k
-      looks-out f = by (isListed (t .pairs) h i) refl (sym e ∙ f)
-        where
-          stopped : checkCounted n ≡ CountedOut k → (es : List Event) → whole .checks ≡ b .made ++ due ∷ es → StopsIn m (whole .checks) Checks (k .checks - m .checks) k
-          stopped c es s =
-              let z : length (b .made) + 0 ≡ k .checks - m .checks = omega (arith, looks-made, ap (λ (x : Counts). x .checks) (check-out n k (b .makes .fits) c)) in
-              stops-eq (sym s) (stops-count z (stops-behind (b .makes) (check-stops n k (b .makes .fits) h (word w h) i a es c)))
+    -- the next check is not covered: the counts stay
+    pub looks-out : lookOf (isListed (t .pairs) h i) (mayStand t h (word w h) i a) n ≡ OutOfChecks → StopsIn m (whole .checks) Checks (n .checks - m .checks) n
+    looks-out = by (isListed (t .pairs) h i) refl
+      where
+        stopped : checkCounted n ≡ CountedOut → (es : List Event) → whole .checks ≡ b .made ++ due ∷ es → StopsIn m (whole .checks) Checks (n .checks - m .checks) n
+        stopped c es s =
+            let z : length (b .made) + 0 ≡ n .checks - m .checks = omega (arith, looks-made) in
+            stops-eq (sym s) (stops-count z (stops-behind (b .makes) (check-stops n (b .makes .fits) h (word w h) i a es c)))
 
-          on : (o : Bool) → mayStand t h (word w h) i a ≡ o → isListed (t .pairs) h i ≡ true → checkCounted n ≡ CountedOut k → StopsIn m (whole .checks) Checks (k .checks - m .checks) k
-          on true eo el c = stopped c (rest .checks) (ap (λ (x : Looked). x .checks) (open-look true true el eo))
-          on false eo el c = stopped c [] (ap (λ (x : Looked). x .checks) (open-look true false el eo))
+        on : (o : Bool) → mayStand t h (word w h) i a ≡ o → isListed (t .pairs) h i ≡ true → checkCounted n ≡ CountedOut → StopsIn m (whole .checks) Checks (n .checks - m .checks) n
+        on true eo el c = stopped c (rest .checks) (ap (λ (x : Looked). x .checks) (open-look true true el eo))
+        on false eo el c = stopped c [] (ap (λ (x : Looked). x .checks) (open-look true false el eo))
 
-          by : (l : Bool) → isListed (t .pairs) h i ≡ l → lookOf l (mayStand t h (word w h) i a) n ≡ OutOfChecks k → StopsIn m (whole .checks) Checks (k .checks - m .checks) k
-          by false el g = let z : _≡_ {A = ℕ} 0 1 = cc in absurd (omega arith)
-          by true el g = on (mayStand t h (word w h) i a) refl el (out-case (mayStand t h (word w h) i a) (checkCounted n) k g)
+        by : (l : Bool) → isListed (t .pairs) h i ≡ l → lookOf l (mayStand t h (word w h) i a) n ≡ OutOfChecks → StopsIn m (whole .checks) Checks (n .checks - m .checks) n
+        by false el g = let z : _≡_ {A = ℕ} 0 1 = cc in absurd (omega arith)
+        by true el g = on (mayStand t h (word w h) i a) refl el (out-case (mayStand t h (word w h) i a) (checkCounted n) g)

@@ -8,14 +8,14 @@ use Rattle.events.specs.Counts.{checkCounted}
 use Rattle.visits.specs.declared.Look.the-variants.{Allowed, Forbidden, OutOfChecks}
 use Rattle.visits.specs.Looks.{checkedLook}
 
-out-look : (allows : Bool) (k : Counts) → OutOfChecks k ≡ checkedLook allows (CountedOut k)
-out-look true k = refl
-out-look false k = refl
+out-look : (allows : Bool) → OutOfChecks ≡ checkedLook allows CountedOut
+out-look true = refl
+out-look false = refl
+
+pub look-out : (allows : Bool) (m : Counts) (c : Counted) → c ≡ checkCounted m → c ≡ CountedOut → OutOfChecks ≡ checkedLook allows (checkCounted m)
+look-out allows m c e f = out-look allows ∙ ap (checkedLook allows) (sym f ∙ e)
 
 module _ (allows : Bool) (m k : Counts) (c : Counted) (e : c ≡ checkCounted m) where
-  pub look-out : c ≡ CountedOut k → OutOfChecks k ≡ checkedLook allows (checkCounted m)
-  look-out f = out-look allows k ∙ ap (checkedLook allows) (sym f ∙ e)
-
   pub look-allowed : c ≡ Within k → allows ≡ true → Allowed k ≡ checkedLook allows (checkCounted m)
   look-allowed f a = sym (ap (λ (b : Bool). checkedLook b (Within k)) a) ∙ ap (checkedLook allows) (sym f ∙ e)
 

@@ -9,4 +9,4 @@ use Rattle.visits.specs.declared.Look.the-variants.{Allowed, Forbidden, 
 abbrev pub checkedLook : (allows : Bool) → Counted → Look
 checkedLook true (Within k) = Allowed k
 checkedLook false (Within k) = Forbidden k
-checkedLook allows (CountedOut k) = OutOfChecks k
+checkedLook allows CountedOut = OutOfChecks

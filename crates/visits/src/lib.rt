@@ -27,11 +27,11 @@ pub enum Unlabelled {
     NoPlan,
 }
 
-// One boat looked at: go on to the next, leave the trial, or end the run.
+// One boat looked at: go on to the next, leave the trial, or end the run with the counts as they were.
 pub enum Look {
     Allowed(Counts),
     Forbidden(Counts),
-    OutOfChecks(Counts),
+    OutOfChecks,
 }
 
 // A check of a slot against the row of a placed boat's slot.
@@ -40,7 +40,7 @@ pub fn check_row(row: u64, slot: u64, counts: Counts) -> Look
     ensures { λ r. ⌜ r ≡ checkedLook (bit row slot) (checkCounted counts) ⌝ }
 {
     match counts.check() {
-        Counted::Out(k) => Look::OutOfChecks(k),
+        Counted::Out => Look::OutOfChecks,
         Counted::Within(k) => {
             if problem::bit(row, slot as usize) {
                 Look::Allowed(k)

@@ -1,11 +1,12 @@
 // The walk of a search: forward while a slot passes; where none is left, back as the method says.
 ghost use mathlib.Core.Path.{_≡_};
-ghost use Prim.Native.Nat.{_≤_};
+ghost use Prim.Native.Nat.{_≤_, _<_};
 ghost use lib.ListN.{length};
 ghost use Rattle.problem.specs.Tables.{Tables, tables};
 ghost use Rattle.problem.specs.Sane.{Sane};
 ghost use Rattle.events.specs.Counts.{Fits};
 ghost use Rattle.words.specs.Places.{used};
+ghost use Rattle.labelling.specs.Stored.{keptWords};
 ghost use Rattle.walk.specs.declared.Ended.the-variants.{Undecided};
 ghost use Rattle.walk.specs.Walks.{Setting, Walked, Searched};
 use events::Counts;
@@ -28,9 +29,22 @@ pub enum Ended {
     Undecided(Counts, Allowance, Place),
 }
 
-fn stopped(which: Allowance, boat: usize, slot: u64, made: u64, counts: Counts) -> Ended
+// The words get the set in hand here, once a run, and not where a visit ends.
+fn stopped(
+    moves: Moves,
+    which: Allowance,
+    boat: usize,
+    slot: u64,
+    made: u64,
+    set: u64,
+    counts: Counts,
+    work: &mut [u64],
+) -> Ended
+    requires { ⌜ (boat < 64) × (used ≤ length (now work)) ⌝ }
     ensures { λ r. ⌜ r ≡ Undecided counts which (record { boat = boat; slot = slot; made = made }) ⌝ }
+    ensures { λ _. ⌜ now (work .exit) ≡ keptWords moves (now (work .entry)) boat set ⌝ }
 {
+    labelling::keep_set(moves, boat, set, work);
     Ended::Undecided(counts, which, Place { boat, slot, made })
 }
 
@@ -69,8 +83,12 @@ pub fn walk(
                 }
                 Unlabelled::NoPlan => return Ended::NoPlan(k),
             },
-            Labelled::OutOfChecks(k, at, made) => return stopped(Allowance::Checks, i, at, made, k),
-            Labelled::OutOfTrials(k, at) => return stopped(Allowance::Trials, i, at, 0, k),
+            Labelled::OutOfChecks(k, set, at, made) => {
+                return stopped(moves, Allowance::Checks, i, at, made, set, k, work);
+            }
+            Labelled::OutOfTrials(k, set, at) => {
+                return stopped(moves, Allowance::Trials, i, at, 0, set, k, work);
+            }
         }
     }
     Ended::Solved(counts)

@@ -1,6 +1,6 @@
 -- Sets of boats as words, and the conflict sets that the working words hold.
 use mathlib.Core.Path.{_≡_}
-use mathlib.Core.Bool.{true, false, cond, not, _&&_, _||_}
+use mathlib.Core.Bool.{Bool, true, false, cond, not, _&&_, _||_}
 use mathlib.Core.List.{List}
 use Prim.Native.Nat.{ℕ, _+_, _^_, _≤_, _<_}
 use lib.Dec.{ltb, eqb}
@@ -13,6 +13,11 @@ use Rattle.words.specs.Layout.{word}
 pub record WithMember (s h r : ℕ) : Type 0 where
   pub members : (j : ℕ) → bit r j ≡ (bit s j || eqb j h)
   pub below : (i : ℕ) → h < i → s < 2 ^ i → r < 2 ^ i
+
+-- r is the set s with boat h where it is to be a member, and s where not
+abbrev pub WithMemberIf : (member : Bool) → (s h r : ℕ) → Type 0
+WithMemberIf true s h r = WithMember s h r
+WithMemberIf false s h r = r ≡ s
 
 -- r is the deepest member of the set s
 pub record Deepest (s r : ℕ) : Type 0 where

@@ -9,3 +9,4 @@ pub use places::row_at;
 pub use sets::deepest_of;
 pub use sets::handed_down;
 pub use sets::with_member;
+pub use sets::with_member_if;

@@ -1,6 +1,6 @@
 // A set of boats is one word: bit h says that boat h is a member.
 ghost use Prim.Native.Nat.{_+_, _^_, _≤_, _<_};
-ghost use Rattle.words.specs.Sets.{WithMember, Deepest, HandedDown};
+ghost use Rattle.words.specs.Sets.{WithMember, WithMemberIf, Deepest, HandedDown};
 
 // The set with boat h.
 pub fn with_member(set: u64, h: usize) -> u64
@@ -8,6 +8,14 @@ pub fn with_member(set: u64, h: usize) -> u64
     ensures { λ r. ⌜ WithMember set h r ⌝ }
 {
     set | (1u64 << h)
+}
+
+// The set with boat h where it is to be a member; as it was where not.
+pub fn with_member_if(set: u64, h: usize, member: bool) -> u64
+    requires { ⌜ h < 64 ⌝ }
+    ensures { λ r. ⌜ WithMemberIf member set h r ⌝ }
+{
+    set | ((member as u64) << h)
 }
 
 // The deepest member of a set that is not empty.

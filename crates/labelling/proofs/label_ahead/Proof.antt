@@ -78,14 +78,8 @@ store-set-requires c κs = search needs
 enum-known-k-3 : tie.Need-enum-known-k-3
 enum-known-k-3 c = search needs
 
-store-set-requires-2 : tie.Need-store-set-requires-2
-store-set-requires-2 c κs = search needs
-
 enum-known-k-4 : tie.Need-enum-known-k-4
 enum-known-k-4 c = search needs
-
-store-set-requires-3 : tie.Need-store-set-requires-3
-store-set-requires-3 c κs = search needs
 
 same-length : tie.Need-same-length
 same-length c = search needs
@@ -117,22 +111,20 @@ same-length-3 c = search needs
 
 returns-3 : tie.Need-returns-3
 returns-3 c =
-    let x = c .before .before in
-    let n = x .before .before .before in
+    let n = c .before in
     let v = n .before .before .before .before in
     let g = n .k3 .given in
-    rw (x .store-set2 .ensures) (ahead-checks (visited v) (start v .pre .1 .words) (v .visit .ensures .1 .1) (g .0 .1 .1 .0) (g .0 .1 .0) (g .0 .1 .1 .1 .0) (g .0 .0) (g .1))
+    ahead-checks (visited v) (start v .pre .1 .words) (v .visit .ensures .1 .1) (g .0 .1 .1 .0) (g .0 .1 .0) (g .0 .1 .1 .1 .0) (g .0 .0) (g .1)
 
 same-length-4 : tie.Need-same-length-4
 same-length-4 c = search needs
 
 returns-4 : tie.Need-returns-4
 returns-4 c =
-    let x = c .before .before in
-    let n = x .before .before .before in
+    let n = c .before in
     let v = n .before .before .before .before in
     let g = n .k4 .given in
-    rw (x .store-set3 .ensures) (ahead-trials (visited v) (start v .pre .1 .words) (v .visit .ensures .1 .1) (g .0 .1 .1 .0) (g .0 .1 .0) (g .0 .0) (g .1))
+    ahead-trials (visited v) (start v .pre .1 .words) (v .visit .ensures .1 .1) (g .0 .1 .1 .0) (g .0 .1 .0) (g .0 .0) (g .1)
 
 pub label-ahead-spec : {M : Type 1} → statement M
 label-ahead-spec =
@@ -146,9 +138,7 @@ label-ahead-spec =
     enum-known-k-2
     store-set-requires
     enum-known-k-3
-    store-set-requires-2
     enum-known-k-4
-    store-set-requires-3
     same-length
     returns
     same-length-2

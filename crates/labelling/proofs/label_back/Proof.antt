@@ -60,14 +60,8 @@ store-set-requires c κs = search needs
 enum-known-k-3 : tie.Need-enum-known-k-3
 enum-known-k-3 c = search needs
 
-store-set-requires-2 : tie.Need-store-set-requires-2
-store-set-requires-2 c κs = search needs
-
 enum-known-k-4 : tie.Need-enum-known-k-4
 enum-known-k-4 c = search needs
-
-store-set-requires-3 : tie.Need-store-set-requires-3
-store-set-requires-3 c κs = search needs
 
 same-length : tie.Need-same-length
 same-length c = search needs
@@ -96,22 +90,20 @@ same-length-3 c = search needs
 
 returns-3 : tie.Need-returns-3
 returns-3 c =
-    let x = c .before .before in
-    let n = x .before .before .before in
+    let n = c .before in
     let v = n .before .before in
     let g = n .k3 .given in
-    rw (x .store-set2 .ensures) (back-checks (visited v) (start v .pre .1 .words) (g .0 .1 .1 .0) (g .0 .1 .0) (g .0 .1 .1 .1 .0) (g .0 .0) (g .1))
+    back-checks (visited v) (start v .pre .1 .words) (g .0 .1 .1 .0) (g .0 .1 .0) (g .0 .1 .1 .1 .0) (g .0 .0) (g .1)
 
 same-length-4 : tie.Need-same-length-4
 same-length-4 c = search needs
 
 returns-4 : tie.Need-returns-4
 returns-4 c =
-    let x = c .before .before in
-    let n = x .before .before .before in
+    let n = c .before in
     let v = n .before .before in
     let g = n .k4 .given in
-    rw (x .store-set3 .ensures) (back-trials (visited v) (start v .pre .1 .words) (g .0 .1 .1 .0) (g .0 .1 .0) (g .0 .0) (g .1))
+    back-trials (visited v) (start v .pre .1 .words) (g .0 .1 .1 .0) (g .0 .1 .0) (g .0 .0) (g .1)
 
 pub label-back-spec : {M : Type 1} → statement M
 label-back-spec =
@@ -124,9 +116,7 @@ label-back-spec =
     enum-known-k-2
     store-set-requires
     enum-known-k-3
-    store-set-requires-2
     enum-known-k-4
-    store-set-requires-3
     same-length
     returns
     same-length-2

@@ -111,15 +111,15 @@ swept c =
     }
 
 -- a boat was emptied: the pair's number is small, and so is the place of the live word before
-emptied : (c : tie.After-k4 Inv-loop μ-loop) → c .k4 .given .0 .1 .0 < 2016
+emptied : (c : tie.After-k3 Inv-loop μ-loop) → c .k3 .given .0 .1 .0 < 2016
 emptied c =
     let w = c .before .before .before .before in
-    omega (arith, is-pair (swept w) (c .k4 .given .1), S (head w) .pre .0 .sane .fewPairs)
+    omega (arith, is-pair (swept w) (c .k3 .given .1), S (head w) .pre .0 .sane .fewPairs)
 
-before-small : (c : tie.After-k4 Inv-loop μ-loop) → let w = c .before .before .before .before in word (after w) (512 + c .k4 .given .0 .1 .0) < 6112
+before-small : (c : tie.After-k3 Inv-loop μ-loop) → let w = c .before .before .before .before in word (after w) (512 + c .k3 .given .0 .1 .0) < 6112
 before-small c =
     let w = c .before .before .before .before in
-    omega (arith, before-few (swept w) (c .k4 .given .1), S (head w) .pre .0 .sane .fewPairs)
+    omega (arith, before-few (swept w) (c .k3 .given .1), S (head w) .pre .0 .sane .fewPairs)
 
 long : (w : tie.After-sweep Inv-loop μ-loop) → 8192 ≤ length (after w)
 long w = omega (arith, kept-after (swept w) .long, S (head w) .pre .0 .room)
@@ -161,21 +161,21 @@ trial-requires c κs = search needs
 enum-known-k : tie.Need-enum-known-k Inv-loop μ-loop
 enum-known-k c = search needs
 
-enum-known-k-2 : tie.Need-enum-known-k-2 Inv-loop μ-loop
-enum-known-k-2 c = search needs
+enum-told : tie.Need-enum-told Inv-loop μ-loop
+enum-told c = search needs
 
 same-length : tie.Need-same-length Inv-loop μ-loop
-same-length c = c .before .before .before .before .before .loop .inv .0 .long
+same-length c = c .before .before .before .before .loop .inv .0 .long
 
 returns : tie.Need-returns Inv-loop μ-loop
 returns c =
-    let d = c .before .before .before .before in
+    let d = c .before .before .before in
     let l = d .before in
     let s = S l in (
       record {
         below = l .loop .inv .1;
-        ends = no-trial (ready s) (s .args .from) (s .args .with) (s .args .start) _ (l .loop .set) (in-size d) (is-live d) (came d) (c .before .before .before .trial .ensures)
-            (c .before .k2 .given .1);
+        ends = no-trial (ready s) (s .args .from) (s .args .with) (s .args .start) _ (l .loop .set) (in-size d) (is-live d) (came d) (c .before .before .trial .ensures)
+            (c .enum-told .given .1);
       },
       (tt, l .loop .inv .0),
     )
@@ -193,8 +193,8 @@ sweep-requires c κs =
       ),
     )
 
-enum-known-k-3 : tie.Need-enum-known-k-3 Inv-loop μ-loop
-enum-known-k-3 c = search needs
+enum-known-k-2 : tie.Need-enum-known-k-2 Inv-loop μ-loop
+enum-known-k-2 c = search needs
 
 same-length-2 : tie.Need-same-length-2 Inv-loop μ-loop
 same-length-2 c = kept-after (swept (c .before .before .before .before .before)) .long
@@ -202,18 +202,18 @@ same-length-2 c = kept-after (swept (c .before .before .before .before .before))
 returns-2 : tie.Need-returns-2 Inv-loop μ-loop
 returns-2 c =
     let w = c .before .before .before .before .before in (
-      record { below = head w .loop .inv .1; ends = swept-clear (swept w) (c .before .k3 .given .1) },
-      (clear-lives (swept w) (c .before .k3 .given .1), kept-after (swept w)),
+      record { below = head w .loop .inv .1; ends = swept-clear (swept w) (c .before .k2 .given .1) },
+      (clear-lives (swept w) (c .before .k2 .given .1), kept-after (swept w)),
     )
 
-enum-known-k-4 : tie.Need-enum-known-k-4 Inv-loop μ-loop
-enum-known-k-4 c = search needs
-
-enum-told : tie.Need-enum-told Inv-loop μ-loop
-enum-told c = search needs
+enum-known-k-3 : tie.Need-enum-known-k-3 Inv-loop μ-loop
+enum-known-k-3 c = search needs
 
 enum-told-2 : tie.Need-enum-told-2 Inv-loop μ-loop
 enum-told-2 c = search needs
+
+enum-told-3 : tie.Need-enum-told-3 Inv-loop μ-loop
+enum-told-3 c = search needs
 
 add-before : tie.Need-add-before Inv-loop μ-loop
 add-before c = omega (arith, emptied (c .before .before .before))
@@ -235,16 +235,16 @@ slice-read-set c =
     let p = c .before .before .before .before .before in
     omega (arith, before-small p, long (p .before .before .before .before))
 
-enum-known-k-5 : tie.Need-enum-known-k-5 Inv-loop μ-loop
-enum-known-k-5 c = search needs
+enum-known-k-4 : tie.Need-enum-known-k-4 Inv-loop μ-loop
+enum-known-k-4 c = search needs
 
 sub-made : tie.Need-sub-made Inv-loop μ-loop
-sub-made c = let w = c .before .before .before .before .before .before .before in out-rises (swept w) (c .before .before .before .k5 .given .1)
+sub-made c = let w = c .before .before .before .before .before .before .before in out-rises (swept w) (c .before .before .before .k4 .given .1)
 
 add-made : tie.Need-add-made Inv-loop μ-loop
 add-made c =
     let w = c .before .before .before .before .before .before .before in
-    omega (arith, out-few (swept w) (c .before .before .before .k5 .given .1))
+    omega (arith, out-few (swept w) (c .before .before .before .k4 .given .1))
 
 same-length-3 : tie.Need-same-length-3 Inv-loop μ-loop
 same-length-3 c = kept-after (swept (c .before .before .before .before .before .before .before)) .long
@@ -252,7 +252,7 @@ same-length-3 c = kept-after (swept (c .before .before .before .before .before .
 returns-3 : tie.Need-returns-3 Inv-loop μ-loop
 returns-3 c =
     let w = c .before .before .before .before .before .before .before in (
-      record { below = head w .loop .inv .1; ends = swept-out (swept w) (c .before .before .before .k5 .given .1) },
+      record { below = head w .loop .inv .1; ends = swept-out (swept w) (c .before .before .before .k4 .given .1) },
       (tt, kept-after (swept w)),
     )
 
@@ -261,13 +261,13 @@ abbrev behind : tie.At-match3-came Inv-loop μ-loop → tie.After-sweep Inv-loop
 behind c = c .before .before .before .before .before .before
 
 abbrev Due : tie.At-match3-came Inv-loop μ-loop → (set : ℕ) → Type 0
-Due c set = let l = head (behind c) in (set < 2 ^ I (S l)) × Came (S l) (l .loop .slot + 1) set (c .before .before .k4 .given .0 .0)
+Due c set = let l = head (behind c) in (set < 2 ^ I (S l)) × Came (S l) (l .loop .slot + 1) set (c .before .before .k3 .given .0 .0)
 
 due : (c : tie.At-match3-came Inv-loop μ-loop) → Due c (c .match3 .set)
 due c =
     let w = behind c in
     let l = head w in
-    let e = c .before .before .k4 .given .1 in
+    let e = c .before .before .k3 .given .1 in
     ⊎-elim
     (λ z. subst (Due c) (sym (z .2)) (l .loop .inv .1, emptied-steps (swept w) e (z .1 .given .1)))
     (λ z.
@@ -328,23 +328,23 @@ visit-spec =
     loop-holds
     trial-requires
     enum-known-k
-    enum-known-k-2
+    enum-told
     same-length
     returns
     sweep-requires
-    enum-known-k-3
+    enum-known-k-2
     same-length-2
     returns-2
-    enum-known-k-4
-    enum-told
+    enum-known-k-3
     enum-told-2
+    enum-told-3
     add-before
     mul-before
     slice-read-before
     add-set
     mul-set
     slice-read-set
-    enum-known-k-5
+    enum-known-k-4
     sub-made
     add-made
     same-length-3

@@ -255,16 +255,16 @@ trial-requires c κs = search needs
 enum-known-k : tie.Need-enum-known-k Inv-boats μ-boats Inv-loop μ-loop
 enum-known-k c = search needs
 
-enum-known-k-2 : tie.Need-enum-known-k-2 Inv-boats μ-boats Inv-loop μ-loop
-enum-known-k-2 c = search needs
+enum-told : tie.Need-enum-told Inv-boats μ-boats Inv-loop μ-loop
+enum-told c = search needs
 
 returns : tie.Need-returns Inv-boats μ-boats Inv-loop μ-loop
 returns c backward =
-    let d = c .before .before .before .before in
+    let d = c .before .before .before in
     let l = d .before in
     record {
       below = l .loop .inv .0;
-      ends = stopped backward d (trial-stops _ _ (l .loop .inv .1 backward .makes .fits) _ _ _ (sym (c .before .before .before .trial .ensures) ∙ c .before .k2 .given .1));
+      ends = stopped backward d (trial-stops _ (l .loop .inv .1 backward .makes .fits) _ _ _ (sym (c .before .before .trial .ensures) ∙ c .enum-told .given .1));
     }
 
 boats-holds : tie.Need-boats-holds Inv-boats μ-boats Inv-loop μ-loop
@@ -306,38 +306,38 @@ check-row-requires c κs =
     let l = d .before in
     omega (arith, S l .pre .0 .sane .fewSlots (I l) (inside l), in-size d)
 
+enum-known-k-2 : tie.Need-enum-known-k-2 Inv-boats μ-boats Inv-loop μ-loop
+enum-known-k-2 c = search needs
+
 enum-known-k-3 : tie.Need-enum-known-k-3 Inv-boats μ-boats Inv-loop μ-loop
 enum-known-k-3 c = search needs
 
-enum-known-k-4 : tie.Need-enum-known-k-4 Inv-boats μ-boats Inv-loop μ-loop
-enum-known-k-4 c = search needs
-
-enum-known-k-5 : tie.Need-enum-known-k-5 Inv-boats μ-boats Inv-loop μ-loop
-enum-known-k-5 c = search needs
+enum-told-2 : tie.Need-enum-told-2 Inv-boats μ-boats Inv-loop μ-loop
+enum-told-2 c = search needs
 
 -- the checks ran out
-at-out : (c : tie.After-k5 Inv-boats μ-boats Inv-loop μ-loop) →
+at-out : (c : tie.After-enum-told2 Inv-boats μ-boats Inv-loop μ-loop) →
     let b = looking (c .before .before) in
-    StopsIn (begun b) (whole (slots b) .checks) Checks (c .k5 .given .0 .0 .checks - begun b .checks) (c .k5 .given .0 .0)
+    StopsIn (begun b) (whole (slots b) .checks) Checks (b .boats .counts .checks - begun b .checks) (b .boats .counts)
 at-out c =
     let d = c .before .before in
     let b = looking d in
     let l = slots b in
     let left = d .before .before .before .before .if1 .left in
-    looks-out (short l) (looking-there b left) (there b left .below) _ _ (looked b left _ (d .check-row .ensures)) (c .k5 .given .1)
+    looks-out (short l) (looking-there b left) (there b left .below) (sym (looked b left _ (d .check-row .ensures)) ∙ c .enum-told2 .given .1)
 
 returns-2 : tie.Need-returns-2 Inv-boats μ-boats Inv-loop μ-loop
 returns-2 c backward =
-    let k = c .before .before in
+    let k = c .before in
     let b = looking (k .before .before) in
     record { below = slots b .loop .inv .0; ends = stopped backward (tried (b .before)) (stops-behind (at-trial (b .before)) (at-out k)) }
 
 sub-made : tie.Need-sub-made Inv-boats μ-boats Inv-loop μ-loop
-sub-made c = omega (arith, checks-made (at-out (c .before .before) .makes))
+sub-made c = omega (arith, checks-made (at-out (c .before) .makes))
 
 add-made : tie.Need-add-made Inv-boats μ-boats Inv-loop μ-loop
 add-made c =
-    let k = c .before .before in
+    let k = c .before in
     let l = slots (looking (k .before .before)) in
     omega (arith, few (S l), looks-made-few (T l) (W l) (I l) (l .loop .slot) 0 (short l) (at-out k))
 
@@ -359,7 +359,7 @@ boats-again c =
     record {
       h = n .boat + 1;
       links = rw (add-one, add-one) (n .rest);
-      looking = looks-allowed (short l) (looking-there b left) (n .below) _ _ (looked b left _ (d .check-row .ensures)) (c .before .k3 .given .1);
+      looking = looks-allowed (short l) (looking-there b left) (n .below) _ _ (looked b left _ (d .check-row .ensures)) (c .before .k2 .given .1);
     }
 
 returns-3 : tie.Need-returns-3 Inv-boats μ-boats Inv-loop μ-loop
@@ -428,7 +428,7 @@ visit-spec =
     loop-holds
     trial-requires
     enum-known-k
-    enum-known-k-2
+    enum-told
     returns
     boats-holds
     add-link
@@ -440,9 +440,9 @@ visit-spec =
     mul-row-2
     shared-slice-read-row-2
     check-row-requires
+    enum-known-k-2
     enum-known-k-3
-    enum-known-k-4
-    enum-known-k-5
+    enum-told-2
     sub-made
     add-made
     returns-2

@@ -1,5 +1,5 @@
 -- Two loops: that over slots keeps which slots the visit has given up, that over boats which looks of the trial are made.
-use mathlib.Core.Path.{_≡_}
+use mathlib.Core.Path.{_≡_, sym, _∙_}
 use mathlib.Core.List.{List, [], _∷_}
 use mathlib.Core.Logic.{⊎-elim}
 use mathlib.Core.Option.{Option, none, some}
@@ -163,18 +163,18 @@ after-boats c =
     (c .if2 .came)
 
 -- the allowance does not cover the next check
-module _ (c : tie.After-known-told5 Inv-boats μ-boats Inv-loop μ-loop) where
+module _ (c : tie.After-enum-told2 Inv-boats μ-boats Inv-loop μ-loop) where
   abbrev look : tie.After-look-at Inv-boats μ-boats Inv-loop μ-loop
-  look = c .before .before .before
+  look = c .before .before
 
   abbrev reached : Counts
-  reached = c .before .k5 .given .0 .0
+  reached = boats look .boats .counts
 
   at-out : StopsIn (start (boats look)) (whole (boats look) .checks) Checks (reached .checks - start (boats look) .checks) reached
   at-out =
       let b = boats look in
       let below = look .before .before .before .if2 .left in
-      looks-out (short b) (b .boats .inv) below _ _ (looked b below _ (look .look-at .ensures)) (c .before .k5 .given .1)
+      looks-out (short b) (b .boats .inv) below (sym (looked b below _ (look .look-at .ensures)) ∙ c .enum-told2 .given .1)
 
 size-of-requires : tie.Need-size-of-requires Inv-boats μ-boats Inv-loop μ-loop
 size-of-requires c κs = entry c .pre .0 .boat
@@ -200,16 +200,16 @@ trial-requires c κs = search needs
 enum-known-k : tie.Need-enum-known-k Inv-boats μ-boats Inv-loop μ-loop
 enum-known-k c = search needs
 
-enum-known-k-2 : tie.Need-enum-known-k-2 Inv-boats μ-boats Inv-loop μ-loop
-enum-known-k-2 c = search needs
+enum-told : tie.Need-enum-told Inv-boats μ-boats Inv-loop μ-loop
+enum-told c = search needs
 
 same-length : tie.Need-same-length Inv-boats μ-boats Inv-loop μ-loop
-same-length c = c .before .before .before .before .before .loop .inv .only .long
+same-length c = c .before .before .before .before .loop .inv .only .long
 
 returns : tie.Need-returns Inv-boats μ-boats Inv-loop μ-loop
 returns c =
-    let d = c .before .before .before .before in
-    (no-trial (at-slot d) _ _ (c .before .before .before .trial .ensures) (c .before .k2 .given .1), d .before .loop .inv .only)
+    let d = c .before .before .before in
+    (no-trial (at-slot d) _ (c .before .before .trial .ensures) (c .enum-told .given .1), d .before .loop .inv .only)
 
 mul-mark : tie.Need-mul-mark Inv-boats μ-boats Inv-loop μ-loop
 mul-mark c = omega (arith, inside (tried c))
@@ -247,14 +247,14 @@ slice-read-look-at-2 c = let b = c .before .before .before in omega (arith, few 
 look-at-requires : tie.Need-look-at-requires Inv-boats μ-boats Inv-loop μ-loop
 look-at-requires c κs = let b = c .before .before .before in (slot-small (at-slot (turn b)), row-inside b (c .before .before .if2 .left))
 
+enum-known-k-2 : tie.Need-enum-known-k-2 Inv-boats μ-boats Inv-loop μ-loop
+enum-known-k-2 c = search needs
+
 enum-known-k-3 : tie.Need-enum-known-k-3 Inv-boats μ-boats Inv-loop μ-loop
 enum-known-k-3 c = search needs
 
-enum-known-k-4 : tie.Need-enum-known-k-4 Inv-boats μ-boats Inv-loop μ-loop
-enum-known-k-4 c = search needs
-
-enum-known-k-5 : tie.Need-enum-known-k-5 Inv-boats μ-boats Inv-loop μ-loop
-enum-known-k-5 c = search needs
+enum-told-2 : tie.Need-enum-told-2 Inv-boats μ-boats Inv-loop μ-loop
+enum-told-2 c = search needs
 
 sub-made : tie.Need-sub-made Inv-boats μ-boats Inv-loop μ-loop
 sub-made c = omega (arith, checks-made (at-out (c .before) .makes))
@@ -284,7 +284,7 @@ boats-again c =
     let d = c .before .before .before in
     let b = boats d in
     let below = d .before .before .before .if2 .left in
-    looks-allowed (short b) (b .boats .inv) below _ _ (looked b below _ (d .look-at .ensures)) (c .before .k3 .given .1)
+    looks-allowed (short b) (b .boats .inv) below _ _ (looked b below _ (d .look-at .ensures)) (c .before .k2 .given .1)
 
 boat-before-requires : tie.Need-boat-before-requires Inv-boats μ-boats Inv-loop μ-loop
 boat-before-requires c κs = search needs
@@ -352,7 +352,7 @@ visit-spec =
     loop-holds
     trial-requires
     enum-known-k
-    enum-known-k-2
+    enum-told
     same-length
     returns
     mul-mark
@@ -367,9 +367,9 @@ visit-spec =
     mul-look-at-2
     slice-read-look-at-2
     look-at-requires
+    enum-known-k-2
     enum-known-k-3
-    enum-known-k-4
-    enum-known-k-5
+    enum-told-2
     sub-made
     add-made
     same-length-2

@@ -5,12 +5,14 @@ use native.Mathlib.Omega.{arith}
 use borrow.Author.Needs.{needs}
 use native.Mathlib.Nat.{le-refl}
 use lib.Count.{ones-le}
-use lib.ListN.{length}
+use lib.ListN.{length, take}
 use Rattle.problem.specs.Tables.{Tables, tables, higher}
+use Rattle.problem.specs.declared.Allowance.the-variants.{Checks}
+use Rattle.events.specs.Counts.{allChecks, StopsIn}
 use Rattle.words.specs.Layout.{word, firstPair, leftAt}
 use Rattle.words.proofs.Firsts.{first-le}
 use Rattle.words.proofs.Lefts.{left-before}
-use Rattle.sweeping.specs.Sweeps.{Sweepable, Owns}
+use Rattle.sweeping.specs.Sweeps.{Sweepable, Owns, sweepOf}
 use Rattle.sweeping.proofs.Along.{Along, row-within, begins, ends}
 use Rattle.sweeping.proofs.Turns.{Turn, is-pair, before-word, runs-out, in-rows, in-words, still-only, empties, goes-on}
 use Rattle.sweeping.proofs.sweep.Statement.{statement}
@@ -120,17 +122,25 @@ check-each-requires c κs = head c .loop .inv .makes .fits .checksFit
 enum-known-k : tie.Need-enum-known-k Inv-loop μ-loop
 enum-known-k c = search needs
 
-enum-known-k-2 : tie.Need-enum-known-k-2 Inv-loop μ-loop
-enum-known-k-2 c = search needs
+enum-told : tie.Need-enum-told Inv-loop μ-loop
+enum-told c = search needs
+
+all-checks-requires : tie.Need-all-checks-requires Inv-loop μ-loop
+all-checks-requires c κs = search needs
+
+-- the allowance does not cover the checks
+module _ (c : tie.After-enum-told Inv-loop μ-loop) where
+  abbrev read : tie.After-slice-known3 Inv-loop μ-loop
+  read = c .before .before .before
+
+  at-out : let l = head read .loop in let s = S (head read) in StopsIn (s .args .start) (sweepOf (T s) (take (s .args .i) (s .args .work .now)) (s .args .slot) .checks) Checks (l .counts .«most_checks» - s .args .start .checks) (allChecks (l .counts))
+  at-out = runs-out (turn read) (sym (c .before .before .check-each .ensures) ∙ c .enum-told .given .1)
 
 same-length : tie.Need-same-length Inv-loop μ-loop
-same-length c = head (c .before .before .before .before) .loop .inv .only .long
+same-length c = head (read (c .before)) .loop .inv .only .long
 
 returns : tie.Need-returns Inv-loop μ-loop
-returns c =
-    let f = c .before .before .before .before in
-    let l = head f .loop in
-    (runs-out (turn f) (c .before .k2 .given .0 .0) (sym (c .before .before .before .check-each .ensures) ∙ c .before .k2 .given .1), l .inv .only)
+returns c = (rw (c .all-checks .ensures) (at-out (c .before)), head (read (c .before)) .loop .inv .only)
 
 mul-stays : tie.Need-mul-stays Inv-loop μ-loop
 mul-stays c =
@@ -208,7 +218,8 @@ sweep-spec =
     cast-check-each
     check-each-requires
     enum-known-k
-    enum-known-k-2
+    enum-told
+    all-checks-requires
     same-length
     returns
     mul-stays

@@ -9,30 +9,30 @@ use Rattle.visits.proofs.check_row.Tie as tie
 check-requires : tie.Need-check-requires
 check-requires c κs = search needs
 
+enum-told : tie.Need-enum-told
+enum-told c = search needs
+
 enum-known-k : tie.Need-enum-known-k
 enum-known-k c = search needs
-
-enum-known-k-2 : tie.Need-enum-known-k-2
-enum-known-k-2 c = search needs
 
 bit-requires : tie.Need-bit-requires
 bit-requires c κs = search needs
 
 returns : tie.Need-returns
 returns c =
-    let a = c .before .before .before .before .args in
-    look-out (bit (a .row) (a .slot)) (a .counts) _ _ (c .before .before .before .check .ensures) (c .before .k .given .1)
+    let a = c .before .before .before .args in
+    look-out (bit (a .row) (a .slot)) (a .counts) _ (c .before .before .check .ensures) (c .enum-told .given .1)
 
 returns-2 : tie.Need-returns-2
 returns-2 c =
     let a = c .before .before .before .before .before .before .args in
-    look-allowed (bit (a .row) (a .slot)) (a .counts) _ _ (c .before .before .before .before .before .check .ensures) (c .before .before .before .k2 .given .1) (sym (c .before .bit .ensures) ∙ c .if1 .taken)
+    look-allowed (bit (a .row) (a .slot)) (a .counts) _ _ (c .before .before .before .before .before .check .ensures) (c .before .before .before .k .given .1) (sym (c .before .bit .ensures) ∙ c .if1 .taken)
 
 returns-3 : tie.Need-returns-3
 returns-3 c =
     let a = c .before .before .before .before .before .before .args in
-    look-forbidden (bit (a .row) (a .slot)) (a .counts) _ _ (c .before .before .before .before .before .check .ensures) (c .before .before .before .k2 .given .1) (sym (c .before .bit .ensures) ∙ c .if1 .left)
+    look-forbidden (bit (a .row) (a .slot)) (a .counts) _ _ (c .before .before .before .before .before .check .ensures) (c .before .before .before .k .given .1) (sym (c .before .bit .ensures) ∙ c .if1 .left)
 
 pub check-row-spec : {M : Type 1} → statement M
 check-row-spec =
-    tie.close (tie.spec check-requires enum-known-k enum-known-k-2 bit-requires returns returns-2 returns-3)
+    tie.close (tie.spec check-requires enum-told enum-known-k bit-requires returns returns-2 returns-3)

@@ -12,14 +12,16 @@ use Rattle.problem.specs.declared.Allowance.the-variants.{Checks, Trials}
 use Rattle.events.specs.declared.Counts.{Counts}
 use Rattle.methods.proofs.StepsLeft.{stepsLeftOf}
 use Rattle.words.specs.Places.{used}
-use Rattle.words.specs.Layout.{Placed}
+use Rattle.words.specs.Layout.{ChangedOnly, Placed}
 use Rattle.words.proofs.ChangedOnly.{only-trans}
 use Rattle.visits.specs.declared.Unlabelled.{Unlabelled}
 use Rattle.moves.specs.declared.Moves.{Moves}
 use Rattle.moves.specs.Memory.{Memory, memory}
 use Rattle.labelling.specs.declared.Labelled.{Labelled}
 use Rattle.labelling.specs.declared.Labelled.the-variants.{Passed, Spent, OutOfChecks, OutOfTrials}
+use Rattle.labelling.specs.Stored.{keptWords}
 use Rattle.labelling.specs.Labels.{Labels, MovesOn, NoneLeft}
+use Rattle.labelling.proofs.Stored.{kept-long}
 use Rattle.unlabelling.specs.Unlabels.{Unlabels}
 use Rattle.walk.specs.declared.Ended.the-variants.{Undecided}
 use Rattle.walk.specs.Walks.{Arrives, Ends}
@@ -118,28 +120,50 @@ module _ (u : tie.After-unlabel Inv-loop μ-loop) where
   gone : (r : Unlabelled) → u .unlabel .result ≡ r → Unlabels (M (head label)) (T (head label)) (labelled label) (head label .loop .i) unlabelled r
   gone r e = subst (Unlabels (M (head label)) (T (head label)) (labelled label) (head label .loop .i) unlabelled) e (u .unlabel .ensures)
 
--- ---- an allowance has run out
+-- ---- an allowance has run out: the set in hand is still to be kept
+kept-room : (d : tie.After-label Inv-loop μ-loop) (set : ℕ) →
+    let l = head d in
+    ChangedOnly 0 used (begun l) (keptWords (M l) (labelled d) (l .loop .i) set) → (l .loop .i < 64) × (used ≤ length (labelled d))
+kept-room d set o =
+    let l = head d in
+    (omega (arith, onboard d, sane l .fewBoats), omega (arith, kept-long (M l) (labelled d) (l .loop .i) set, o .long, room l))
+
 module _ (c : tie.After-known-told4 Inv-loop μ-loop) where
   abbrev there : tie.After-label Inv-loop μ-loop
   there = c .before .before .before .before .before
 
-  checks-out : let l = head there in Ends (M l) (T l) (P l) (A l) (Σ l) (begun l) (start l) (labelled there) (Undecided (c .before .k3 .given .0 .0) Checks (record { boat = head there .loop .i; slot = c .before .k3 .given .0 .1 .0; made = c .before .k3 .given .0 .1 .1 .0 }))
+  -- its set, its slot, and the events made of the step
+  abbrev set-then : ℕ
+  set-then = c .before .k3 .given .0 .1 .0
+
+  abbrev slot-then : ℕ
+  slot-then = c .before .k3 .given .0 .1 .1 .0
+
+  abbrev made-then : ℕ
+  made-then = c .before .k3 .given .0 .1 .1 .1 .0
+
+  checks-out : let l = head there in
+      Ends (M l) (T l) (P l) (A l) (Σ l) (begun l) (start l) (keptWords (M l) (labelled there) (l .loop .i) set-then)
+      (Undecided (c .before .k3 .given .0 .0) Checks (record { boat = l .loop .i; slot = slot-then; made = made-then }))
   checks-out =
       let l = head there in
       let g = c .before .k3 .given in
-      halted (M l) (T l) (sane l) (P l) (A l) (Σ l) (begun l) (start l) (room l) _ _ _ _ (l .loop .inv) (onboard there) _ Checks (g .0 .1 .0) (g .0 .1 .1 .0) (g .0 .0)
-      (ended there (OutOfChecks (g .0 .0) (g .0 .1 .0) (g .0 .1 .1 .0)) (g .1))
+      halted (M l) (T l) (sane l) (P l) (A l) (Σ l) (begun l) (start l) (room l) _ _ _ _ (l .loop .inv) (onboard there) _ Checks slot-then made-then (g .0 .0)
+      (ended there (OutOfChecks (g .0 .0) set-then slot-then made-then) (g .1))
 
 module _ (c : tie.After-known-told5 Inv-loop μ-loop) where
   abbrev then : tie.After-label Inv-loop μ-loop
   then = c .before .before .before .before .before
 
-  trials-out : let l = head then in Ends (M l) (T l) (P l) (A l) (Σ l) (begun l) (start l) (labelled then) (Undecided (c .before .k4 .given .0 .0) Trials (record { boat = head then .loop .i; slot = c .before .k4 .given .0 .1 .0; made = 0 }))
+  trials-out : let l = head then in
+      let g = c .before .k4 .given in
+      Ends (M l) (T l) (P l) (A l) (Σ l) (begun l) (start l) (keptWords (M l) (labelled then) (l .loop .i) (g .0 .1 .0))
+      (Undecided (g .0 .0) Trials (record { boat = l .loop .i; slot = g .0 .1 .1 .0; made = 0 }))
   trials-out =
       let l = head then in
       let g = c .before .k4 .given in
-      halted (M l) (T l) (sane l) (P l) (A l) (Σ l) (begun l) (start l) (room l) _ _ _ _ (l .loop .inv) (onboard then) _ Trials (g .0 .1 .0) 0 (g .0 .0)
-      (ended then (OutOfTrials (g .0 .0) (g .0 .1 .0)) (g .1))
+      halted (M l) (T l) (sane l) (P l) (A l) (Σ l) (begun l) (start l) (room l) _ _ _ _ (l .loop .inv) (onboard then) _ Trials (g .0 .1 .1 .0) 0 (g .0 .0)
+      (ended then (OutOfTrials (g .0 .0) (g .0 .1 .0) (g .0 .1 .1 .0)) (g .1))
 
 loop-holds : tie.Need-loop-holds Inv-loop μ-loop
 loop-holds c =
@@ -242,25 +266,25 @@ enum-known-k-3 : tie.Need-enum-known-k-3 Inv-loop μ-loop
 enum-known-k-3 c = search needs
 
 stopped-requires : tie.Need-stopped-requires Inv-loop μ-loop
-stopped-requires c κs = tt
+stopped-requires c κs = kept-room (there (c .before)) _ (checks-out (c .before) .only)
 
 same-length-2 : tie.Need-same-length-2 Inv-loop μ-loop
-same-length-2 c = checks-out (c .before) .only .long
+same-length-2 c = rw (c .before .before .stopped .ensures .1) (checks-out (c .before .before .before .before) .only .long)
 
 returns-2 : tie.Need-returns-2 Inv-loop μ-loop
-returns-2 c = rw (c .stopped .ensures) (checks-out (c .before))
+returns-2 c = let x = c .before .before in rw (x .stopped .ensures .0, x .stopped .ensures .1) (checks-out (x .before .before))
 
 enum-known-k-4 : tie.Need-enum-known-k-4 Inv-loop μ-loop
 enum-known-k-4 c = search needs
 
 stopped-requires-2 : tie.Need-stopped-requires-2 Inv-loop μ-loop
-stopped-requires-2 c κs = tt
+stopped-requires-2 c κs = kept-room (then (c .before)) _ (trials-out (c .before) .only)
 
 same-length-3 : tie.Need-same-length-3 Inv-loop μ-loop
-same-length-3 c = trials-out (c .before) .only .long
+same-length-3 c = rw (c .before .before .stopped2 .ensures .1) (trials-out (c .before .before .before .before) .only .long)
 
 returns-3 : tie.Need-returns-3 Inv-loop μ-loop
-returns-3 c = rw (c .stopped2 .ensures) (trials-out (c .before))
+returns-3 c = let x = c .before .before in rw (x .stopped2 .ensures .0, x .stopped2 .ensures .1) (trials-out (x .before .before))
 
 same-length-4 : tie.Need-same-length-4 Inv-loop μ-loop
 same-length-4 c = c .before .loop .inv .only .long

@@ -1,11 +1,10 @@
 -- The pairs passed have their boats to blame.
-use mathlib.Core.Logic.{⊎-elim}
 use Prim.Native.Nat.{_+_, _-_, _<_}
 use borrow.Author.Needs.{needs}
 use native.Mathlib.Omega.{arith}
 use Rattle.problem.specs.Tables.{tables}
 use Rattle.words.specs.Layout.{word}
-use Rattle.live_words.proofs.Blamed.{BlamedTo, blamed-none, before-small, blamed-same, blamed-more, blamed-all}
+use Rattle.live_words.proofs.Blamed.{BlamedTo, blamed-none, before-small, blamed-next, blamed-all}
 use Rattle.live_words.proofs.blaming.blame_listed.Statement.{statement}
 use Rattle.live_words.proofs.blaming.blame_listed.Tie as tie
 
@@ -15,12 +14,9 @@ Inv-loop sizes pairs rows i work₀ end pair₀ work pair = BlamedTo (tables siz
 abbrev μ-loop : tie.MeasureT-loop
 μ-loop sizes pairs rows i work₀ end pair₀ work pair = end - pair
 
--- THE PLACES: the function's entry, seen from the head of the loop; and the inside of the loop, seen from where both words are read
+-- the function's entry, seen from the head of the loop
 abbrev entry : tie.At-loop Inv-loop μ-loop → tie.Start Inv-loop μ-loop
 entry l = l .before .before .before .before .before .before .before
-
-abbrev both : tie.After-slice-known7 Inv-loop μ-loop → tie.In-loop Inv-loop μ-loop
-both c = c .before .before .before .before
 
 -- the word before stands below
 less : (m : tie.In-loop Inv-loop μ-loop) → let l = m .before in word (l .loop .work) (512 + l .loop .pair) < 4096 + l .loop .pair
@@ -71,20 +67,20 @@ mul-was c = omega (arith, less (c .before))
 slice-read-was : tie.Need-slice-read-was Inv-loop μ-loop
 slice-read-was c = omega (arith, less (c .before .before))
 
-mul-if1 : tie.Need-mul-if1 Inv-loop μ-loop
-mul-if1 c = omega (arith, less (c .before .before))
+mul-struck : tie.Need-mul-struck Inv-loop μ-loop
+mul-struck c = omega (arith, less (c .before .before))
 
-slice-read-if1 : tie.Need-slice-read-if1 Inv-loop μ-loop
-slice-read-if1 c = omega (arith, less (c .before .before .before))
+slice-read-struck : tie.Need-slice-read-struck Inv-loop μ-loop
+slice-read-struck c = omega (arith, less (c .before .before .before))
 
-mul-if1-2 : tie.Need-mul-if1-2 Inv-loop μ-loop
-mul-if1-2 c = search needs
+mul-struck-2 : tie.Need-mul-struck-2 Inv-loop μ-loop
+mul-struck-2 c = search needs
 
-slice-read-if1-2 : tie.Need-slice-read-if1-2 Inv-loop μ-loop
-slice-read-if1-2 c = search needs
+slice-read-struck-2 : tie.Need-slice-read-struck-2 Inv-loop μ-loop
+slice-read-struck-2 c = search needs
 
-with-member-requires : tie.Need-with-member-requires Inv-loop μ-loop
-with-member-requires c κs = search needs
+with-member-if-requires : tie.Need-with-member-if-requires Inv-loop μ-loop
+with-member-if-requires c κs = search needs
 
 add-work : tie.Need-add-work Inv-loop μ-loop
 add-work c = search needs
@@ -103,12 +99,10 @@ loop-less c = search needs
 
 loop-again : tie.Need-loop-again Inv-loop μ-loop
 loop-again c =
-    let m = both (c .before) in
+    let m = c .before .before .before .before .before in
     let l = m .before in
     let s = entry l in
-    ⊎-elim (λ x. blamed-same (s .pre .0) (s .pre .1) (l .loop .inv) (omega (arith, m .loop-test .taken)) (x .0 .taken) (x .1))
-    (λ x. blamed-more (s .pre .0) (s .pre .1) (l .loop .inv) (omega (arith, m .loop-test .taken)) (x .0 .left) (x .1 .ensures) (x .2))
-    (c .if1 .came)
+    blamed-next (s .pre .0) (s .pre .1) (l .loop .inv) (omega (arith, m .loop-test .taken)) (c .with-member-if .result) (c .with-member-if .ensures)
 
 same-length : tie.Need-same-length Inv-loop μ-loop
 same-length c = c .before .loop .inv .only .long
@@ -136,11 +130,11 @@ blame-listed-spec =
     add-was
     mul-was
     slice-read-was
-    mul-if1
-    slice-read-if1
-    mul-if1-2
-    slice-read-if1-2
-    with-member-requires
+    mul-struck
+    slice-read-struck
+    mul-struck-2
+    slice-read-struck-2
+    with-member-if-requires
     add-work
     mul-work
     slice-write-work
