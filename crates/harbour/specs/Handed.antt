@@ -1,28 +1,13 @@
--- What a C caller is handed: every reply as one number, one place and two counts.
-use mathlib.Core.Bool.{true, false}
-use mathlib.Core.List.{List, [], _∷_}
-use Prim.Native.Nat.{ℕ, _-_}
-use lib.Dec.{eqb}
-use Rattle.problem.specs.Replies.{Told, told}
+-- What a C caller is handed of a run, and of a pair's rows.
+use Prim.Native.Nat.{_-_}
 use Rattle.questions.specs.declared.Part.{Part}
-use Rattle.planner.specs.Runs.{Result}
-use Rattle.harbour.specs.declared.HarbourReply.{HarbourReply}
+use Rattle.runs.specs.Runs.{Result}
+use Rattle.handing.specs.declared.HarbourReply.{HarbourReply}
+use Rattle.handing.specs.Handed.{handed}
 use Rattle.harbour.specs.declared.HarbourPart.{HarbourPart}
-
--- the place is 0 where the documents give none
-abbrev pub placeIn : (values : List ℕ) → ℕ
-placeIn [] = 0
-placeIn (place ∷ more) = place
-
-abbrev pub handed : Told → (checks trials : ℕ) → HarbourReply
-handed w checks trials = record { answer = w .number; place = placeIn (w .values); checks = checks; trials = trials }
 
 abbrev pub handedRun : Result → HarbourReply
 handedRun r = handed (r .answer) (r .checks) (r .trials)
-
--- that tables are fine is handed on without the problem's own numbers
-abbrev pub fineOrRefused : Told → Told
-fineOrRefused w = elim (eqb (w .number) 0) [ true ↦ told 0 [] | false ↦ w ]
 
 -- where the part starts, and how many words it has
 abbrev pub handedPart : Part → HarbourPart

@@ -3,42 +3,10 @@ ghost use mathlib.Core.Path.{_≡_};
 ghost use Rattle.problem.specs.Tables.{tables};
 ghost use Rattle.tables.specs.Examination.{examination};
 ghost use Rattle.questions.specs.Questions.{lawfulQuestion, brokenQuestion, rowsShown};
-ghost use Rattle.planner.specs.Runs.{runResult};
-ghost use Rattle.harbour.specs.Handed.{handed, handedRun, fineOrRefused, handedPart};
-
-mod replies;
-
-// An answer by its number, its place, and both counts.
-#[repr(C)]
-pub struct HarbourReply {
-    pub answer: u64,
-    pub place: u64,
-    pub checks: u64,
-    pub trials: u64,
-}
-
-impl HarbourReply {
-    pub const SOLVED: u64 = 0;
-
-    pub const NO_PLAN: u64 = 1;
-
-    pub const UNDECIDED_BY_CHECKS: u64 = 2;
-
-    pub const UNDECIDED_BY_TRIALS: u64 = 3;
-
-    pub const FINE: u64 = 0;
-
-    pub const LAWFUL: u64 = 0;
-
-    pub const UNLAWFUL: u64 = 1;
-
-    pub const UNBROKEN: u64 = 0;
-
-    pub const BROKEN: u64 = 1;
-
-    // A refusal's number is added to it.
-    pub const REFUSED: u64 = 100;
-}
+ghost use Rattle.runs.specs.Runs.{runResult};
+ghost use Rattle.handing.specs.Handed.{handed, fineOrRefused};
+ghost use Rattle.harbour.specs.Handed.{handedRun, handedPart};
+use handing::HarbourReply;
 
 // A part of the caller's rows.
 #[repr(C)]
@@ -63,14 +31,14 @@ pub extern "C" fn harbour_run(
     ensures { λ r. ⌜ now (work .exit) ≡ runResult method (tables (now (sizes .entry)) (now (pairs .entry)) (now (rows .entry))) (now (plan .entry)) (now (work .entry)) checks trials .work ⌝ }
 {
     let reply = planner::run(method, sizes, pairs, rows, plan, work, checks, trials);
-    replies::replied(reply)
+    handing::replied(reply)
 }
 
 #[no_mangle]
 pub extern "C" fn harbour_examine(sizes: &[u8], pairs: &[u8], rows: &[u64]) -> HarbourReply
     ensures { λ r. ⌜ r ≡ handed (fineOrRefused (examination (tables (now (sizes .entry)) (now (pairs .entry)) (now (rows .entry))))) 0 0 ⌝ }
 {
-    replies::examined(tables::examine(sizes, pairs, rows))
+    handing::examined(tables::examine(sizes, pairs, rows))
 }
 
 #[no_mangle]
@@ -82,7 +50,7 @@ pub extern "C" fn harbour_lawful(
 ) -> HarbourReply
     ensures { λ r. ⌜ r ≡ handed (lawfulQuestion (tables (now (sizes .entry)) (now (pairs .entry)) (now (rows .entry))) (now (given .entry))) 0 0 ⌝ }
 {
-    replies::judged(questions::is_lawful(sizes, pairs, rows, given))
+    handing::judged(questions::is_lawful(sizes, pairs, rows, given))
 }
 
 #[no_mangle]
@@ -94,7 +62,7 @@ pub extern "C" fn harbour_broken(
 ) -> HarbourReply
     ensures { λ r. ⌜ r ≡ handed (brokenQuestion (tables (now (sizes .entry)) (now (pairs .entry)) (now (rows .entry))) (now (given .entry))) 0 0 ⌝ }
 {
-    replies::broken(questions::first_broken(sizes, pairs, rows, given))
+    handing::broken(questions::first_broken(sizes, pairs, rows, given))
 }
 
 #[no_mangle]

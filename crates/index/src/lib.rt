@@ -1,12 +1,11 @@
-// What the pairs are looked up by, found once a run: where their rows begin, and where the live words before them stand.
+// For looking back: where the rows of each two boats' pair begin, found once a run.
 ghost use mathlib.Core.Path.{_≡_};
 ghost use Prim.Native.Nat.{ℕ, _+_, _≤_, _<_};
 ghost use lib.ListN.{length};
-ghost use Rattle.problem.specs.Rising.{Rising};
 ghost use Rattle.problem.specs.Tables.{Tables, tables, boats};
 ghost use Rattle.problem.specs.Sane.{Sane};
-ghost use Rattle.words.specs.Places.{tri, starts, rowStartsEnd, lasts, index, marks, linkAt, indexAt, used};
-ghost use Rattle.words.specs.Layout.{word, indexOf, firstPair, ChangedOnly, Zero, Indexed, Firsts, Chained};
+ghost use Rattle.words.specs.Places.{tri, starts, index, marks, linkAt, indexAt, used};
+ghost use Rattle.words.specs.Layout.{word, indexOf, ChangedOnly, Zero, Indexed};
 ghost use Rattle.words.specs.Links.{Links, Linked};
 use words::Words;
 
@@ -23,10 +22,10 @@ pub fn index_back(sizes: &[u8], pairs: &[u8], rows: &[u64], work: &mut [u64])
     let mut start: usize = 0;
     let mut k: usize = 0;
     while k < count {
-        let low = problem::lower_of(pairs, k);
-        let at = words::row_at(problem::higher_of(pairs, k)) + low;
+        let low = looks::lower_of(pairs, k);
+        let at = words::row_at(looks::higher_of(pairs, k)) + low;
         work[at] = (start as u64) + 1;
-        start += problem::size_of(sizes, low);
+        start += looks::size_of(sizes, low);
         k += 1;
     }
 }
@@ -80,70 +79,5 @@ pub fn link_back(sizes: &[u8], pairs: &[u8], rows: &[u64], work: &mut [u64])
         at = link_boat(sizes, pairs, rows, i, at, work);
         work[Words::ENDS + i] = at as u64;
         i += 1;
-    }
-}
-
-// The end of the pairs that have a boat as their lower one, from the first of them on.
-fn pairs_end(pairs: &[u8], from: usize, boat: usize) -> usize
-    requires { ⌜ Rising (now pairs) ⌝ }
-    requires { ⌜ from ≡ firstPair (now pairs) boat ⌝ }
-    ensures { λ r. ⌜ (from ≤ r) × (r ≡ firstPair (now (pairs .entry)) (boat + 1)) ⌝ }
-{
-    let count = pairs.len() / 2;
-    let mut k = from;
-    while k < count {
-        if problem::lower_of(pairs, k) != boat {
-            return k;
-        }
-        k += 1;
-    }
-    k
-}
-
-// For looking ahead: each boat's first pair as the lower boat, and where its rows begin.
-pub fn index_ahead(sizes: &[u8], pairs: &[u8], rows: &[u64], work: &mut [u64])
-    ghost { Tables }
-    requires { λ t. ⌜ tables (now sizes) (now pairs) (now rows) ≡ t ⌝ }
-    requires { λ t. ⌜ Sane t ⌝ }
-    requires { λ _. ⌜ used ≤ length (now work) ⌝ }
-    ensures { λ t _. ⌜ Firsts t (now (work .exit)) ⌝ }
-    ensures { λ _ _. ⌜ ChangedOnly starts rowStartsEnd (now (work .entry)) (now (work .exit)) ⌝ }
-{
-    let n = sizes.len();
-    let mut k: usize = 0;
-    let mut start: usize = 0;
-    let mut i: usize = 0;
-    while i < n {
-        work[Words::STARTS + i] = k as u64;
-        work[Words::ROW_STARTS + i] = start as u64;
-        let next = pairs_end(pairs, k, i);
-        start += (next - k) * problem::size_of(sizes, i);
-        k = next;
-        i += 1;
-    }
-    work[Words::STARTS + n] = k as u64;
-}
-
-// For looking ahead: where the live word before each pair stands, and each boat's last.
-pub fn chain_ahead(sizes: &[u8], pairs: &[u8], rows: &[u64], work: &mut [u64])
-    ghost { Tables }
-    requires { λ t. ⌜ tables (now sizes) (now pairs) (now rows) ≡ t ⌝ }
-    requires { λ t. ⌜ Sane t ⌝ }
-    requires { λ _. ⌜ used ≤ length (now work) ⌝ }
-    ensures { λ t _. ⌜ Chained t (now (work .exit)) ⌝ }
-    ensures { λ _ _. ⌜ ChangedOnly lasts marks (now (work .entry)) (now (work .exit)) ⌝ }
-{
-    let mut j: usize = 0;
-    while j < sizes.len() {
-        work[Words::LASTS + j] = (Words::ALLS + j) as u64;
-        j += 1;
-    }
-    let count = pairs.len() / 2;
-    let mut k: usize = 0;
-    while k < count {
-        let last = Words::LASTS + problem::higher_of(pairs, k);
-        work[Words::PREVS + k] = work[last];
-        work[last] = (Words::LIVES + k) as u64;
-        k += 1;
     }
 }

@@ -37,9 +37,9 @@ use Rattle.live_words.specs.Kept.{BlamesKept, KeptAhead, Blaming}
 use Rattle.live_words.proofs.Live.{lives-stay, blames-kept}
 use Rattle.moves.specs.declared.Moves.the-variants.{LookingBack, Marking, LookingAhead}
 use Rattle.moves.specs.Memory.{SetsKept, Kept}
-use Rattle.labelling.specs.Stored.{passedWords, setStored, begunSet}
+use Rattle.storing.specs.Stored.{passedWords, setStored, begunSet}
 use Rattle.labelling.specs.Labels.{MovesOn, NoneLeft, Halts}
-use Rattle.labelling.proofs.Stored.{Visiting, placed-set, begun-state, stored-after, passed-plan, passed-only, passed-placed, passed-sets, passed-state, left-other, left-plan, left-only, left-sets, left-state}
+use Rattle.storing.proofs.Stored.{Visiting, placed-set, begun-state, stored-after, passed-plan, passed-only, passed-placed, passed-sets, passed-state, left-other, left-plan, left-only, left-sets, left-state}
 
 -- a choice of boat i is one of its slots
 in-size : (t : Tables) (w : List ℕ) (i b : ℕ) → i ≤ length w → b < choices t (length (take i w)) → b < size (t .sizes) i

@@ -12,7 +12,7 @@ use Rattle.words.specs.Layout.{ChangedOnly}
 use Rattle.visits.specs.Visits.{Passes, Spends, RunsOut}
 use Rattle.moves.specs.declared.Moves.{Moves}
 use Rattle.moves.specs.Memory.{stepsBy, memory, Kept}
-use Rattle.labelling.specs.Stored.{keptWords}
+use Rattle.storing.specs.Stored.{keptWords}
 use Rattle.labelling.specs.declared.Labelled.{Labelled}
 use Rattle.labelling.specs.declared.Labelled.the-variants.{Passed, Spent, OutOfChecks, OutOfTrials}
 

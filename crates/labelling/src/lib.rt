@@ -5,12 +5,8 @@ ghost use Rattle.visits.specs.Visits.{Standing};
 ghost use Rattle.moves.specs.declared.Moves.the-variants.{LookingBack, Marking, LookingAhead};
 ghost use Rattle.moves.specs.Memory.{Kept};
 ghost use Rattle.labelling.specs.Labels.{Labels};
-
-mod storing;
-
 use events::Counts;
 use moves::Moves;
-pub use storing::keep_set;
 use visits::Backward;
 use visits::Visited;
 

@@ -39,7 +39,7 @@ pub fn fill_slots(sizes: &[u8], pairs: &[u8], rows: &[u64], work: &mut [u64])
 {
     let mut j: usize = 0;
     while j < sizes.len() {
-        work[Words::ALLS + j] = all_slots(problem::size_of(sizes, j));
+        work[Words::ALLS + j] = all_slots(looks::size_of(sizes, j));
         j += 1;
     }
 }

@@ -30,7 +30,7 @@ pub fn visit(
     requires { λ _. ⌜ with < 2 ^ i ⌝ }
     ensures { λ t r. ⌜ ((backward : Backward) → Visits t (lookingBack t) backward (now (work .entry)) i from with start r) ⌝ }
 {
-    let size = problem::size_of(sizes, i) as u64;
+    let size = looks::size_of(sizes, i) as u64;
     let first = work[Words::STARTS + i] as usize;
     let end = work[Words::ENDS + i] as usize;
     let mut slot = from;

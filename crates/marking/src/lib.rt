@@ -52,7 +52,7 @@ pub fn visit(
     ensures { λ t r. ⌜ VisitsMarked t (now (work .entry)) i from start (now (work .exit)) r ⌝ }
     ensures { λ _ r. ⌜ ChangedOnly (markAt i 0) (markAt i 64) (now (work .entry)) (now (work .exit)) ⌝ }
 {
-    let size = problem::size_of(sizes, i) as u64;
+    let size = looks::size_of(sizes, i) as u64;
     let row = words::row_at(i);
     let low = work[Words::LOWS + i];
     let mut slot = from;

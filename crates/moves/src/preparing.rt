@@ -17,8 +17,8 @@ fn prepare_ahead(sizes: &[u8], pairs: &[u8], rows: &[u64], work: &mut [u64])
     requires { λ _. ⌜ used ≤ length (now work) ⌝ }
     ensures { λ t _. ⌜ PreparedAhead t (now (work .entry)) (now (work .exit)) ⌝ }
 {
-    index::index_ahead(sizes, pairs, rows, work);
-    index::chain_ahead(sizes, pairs, rows, work);
+    chains::index_ahead(sizes, pairs, rows, work);
+    chains::chain_ahead(sizes, pairs, rows, work);
     live_words::fill_slots(sizes, pairs, rows, work);
 }
 

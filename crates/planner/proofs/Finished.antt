@@ -27,8 +27,8 @@ use Rattle.walk.specs.declared.Ended.{Ended}
 use Rattle.walk.specs.declared.Ended.the-variants.{Solved, NoPlan, Undecided}
 use Rattle.walk.specs.Walks.{countsThen, decisionThen, Searched}
 use Rattle.walk.proofs.Cut.{ended-cut}
-use Rattle.planner.specs.Runs.{decisionTold, written, Result, finishedResult, resultOf}
-use Rattle.planner.specs.Lent.{answerOf, replyOf}
+use Rattle.runs.specs.Runs.{decisionTold, written, Result, finishedResult, resultOf}
+use Rattle.telling.specs.Replies.{answerOf, replyOf}
 
 -- the form that the code follows makes the events of the method as it is defined
 search-by : (chosen : Method) (t : Tables) → search t (stepsBy (movesOf chosen) t) ≡ searchBy chosen t

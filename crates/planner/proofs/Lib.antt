@@ -1,6 +1,1 @@
-pub mod Copying
-pub mod Refusing
-pub mod Accepting
 pub mod Finished
-pub mod Theorems
-pub mod Wrong

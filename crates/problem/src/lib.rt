@@ -1,19 +1,10 @@
-// The harbour's problem: its limits and methods, what an operation answers, and the looks at the tables that all other code makes.
+// The harbour's problem: its limits and methods, and what an operation answers.
 ghost use mathlib.Core.Path.{_≡_};
 ghost use mathlib.Core.Bool.{_||_};
 ghost use Prim.Native.Nat.{_%_};
 ghost use lib.Dec.{ltb, eqb};
 ghost use Rattle.problem.specs.Methods.{methodOf};
 ghost use Rattle.problem.specs.Replies.{refusalNumber, refusalPlace};
-
-mod looks;
-
-pub use looks::bit;
-pub use looks::higher_of;
-pub use looks::lower_of;
-pub use looks::place_of;
-pub use looks::size_of;
-pub use looks::start_of;
 
 // A problem by its numbers: boats, listed pairs and row words. It holds none of the tables.
 pub struct Problem {

@@ -37,12 +37,12 @@ fn lowest_broken(sizes: &[u8], pairs: &[u8], rows: &[u64], plan: &[u8]) -> usize
     let mut start: usize = 0;
     let mut k: usize = 0;
     while k < count {
-        let low = problem::lower_of(pairs, k);
-        let row = rows[start + problem::size_of(plan, low)];
-        if !problem::bit(row, problem::size_of(plan, problem::higher_of(pairs, k))) {
+        let low = looks::lower_of(pairs, k);
+        let row = rows[start + looks::size_of(plan, low)];
+        if !looks::bit(row, looks::size_of(plan, looks::higher_of(pairs, k))) {
             return k;
         }
-        start += problem::size_of(sizes, low);
+        start += looks::size_of(sizes, low);
         k += 1;
     }
     count

@@ -55,11 +55,11 @@ pub fn place_of_rows(sizes: &[u8], pairs: &[u8], rows: &[u64], lower: usize, hig
     match tables::examine(sizes, pairs, rows) {
         Examined::Refused(_) => Part { from: 0, to: 0 },
         Examined::Fine(p) => {
-            let pair = problem::place_of(pairs, lower, higher);
+            let pair = looks::place_of(pairs, lower, higher);
             let count = p.pairs;
             if pair < count {
-                let from = problem::start_of(sizes, pairs, pair);
-                let to = from + problem::size_of(sizes, lower);
+                let from = looks::start_of(sizes, pairs, pair);
+                let to = from + looks::size_of(sizes, lower);
                 Part { from, to }
             } else {
                 Part { from: 0, to: 0 }

@@ -30,7 +30,7 @@ pub fn own_pairs(sizes: &[u8], pairs: &[u8], rows: &[u64], i: usize, work: &[u64
     let first = work[Words::STARTS + i] as usize;
     let end = work[Words::ENDS + i] as usize;
     let row = work[Words::ROW_STARTS + i];
-    let size = problem::size_of(sizes, i);
+    let size = looks::size_of(sizes, i);
     Own {
         first,
         end,

@@ -35,7 +35,7 @@ pub fn examine(sizes: &[u8], pairs: &[u8], rows: &[u64]) -> Examined
     if pair < count {
         return Examined::Refused(Refusal::Pair(pair));
     }
-    if rows.len() != problem::start_of(sizes, pairs, count) {
+    if rows.len() != looks::start_of(sizes, pairs, count) {
         return Examined::Refused(Refusal::RowWords);
     }
     let word = rows::first_bad_word(sizes, pairs, rows);

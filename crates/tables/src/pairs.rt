@@ -11,20 +11,20 @@ fn is_above(pairs: &[u8], pair: usize, before: usize) -> bool
     requires { ⌜ before < listed (now pairs) ⌝ }
     ensures { λ r. ⌜ r ≡ isAbove (now (pairs .entry)) pair before ⌝ }
 {
-    let low = problem::lower_of(pairs, pair);
-    let low_before = problem::lower_of(pairs, before);
+    let low = looks::lower_of(pairs, pair);
+    let low_before = looks::lower_of(pairs, before);
     if low_before < low {
         return true;
     }
-    low_before == low && problem::higher_of(pairs, before) < problem::higher_of(pairs, pair)
+    low_before == low && looks::higher_of(pairs, before) < looks::higher_of(pairs, pair)
 }
 
 fn is_bad_pair(boats: usize, pairs: &[u8], pair: usize) -> bool
     requires { ⌜ pair < listed (now pairs) ⌝ }
     ensures { λ r. ⌜ r ≡ badPair boats (now (pairs .entry)) pair ⌝ }
 {
-    let high = problem::higher_of(pairs, pair);
-    if high <= problem::lower_of(pairs, pair) {
+    let high = looks::higher_of(pairs, pair);
+    if high <= looks::lower_of(pairs, pair) {
         return true;
     }
     if boats <= high {

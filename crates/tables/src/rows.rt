@@ -48,8 +48,8 @@ pub fn first_bad_word(sizes: &[u8], pairs: &[u8], rows: &[u64]) -> usize
     let mut word: usize = 0;
     let mut k: usize = 0;
     while k < count {
-        let to = word + problem::size_of(sizes, problem::lower_of(pairs, k));
-        let size = problem::size_of(sizes, problem::higher_of(pairs, k));
+        let to = word + looks::size_of(sizes, looks::lower_of(pairs, k));
+        let size = looks::size_of(sizes, looks::higher_of(pairs, k));
         let wide = first_wide_word(rows, word, to, size);
         if wide < to {
             return wide;

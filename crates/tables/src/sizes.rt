@@ -13,7 +13,7 @@ pub fn first_bad_size(sizes: &[u8]) -> usize
 {
     let mut i: usize = 0;
     while i < sizes.len() {
-        if Problem::bad_size(problem::size_of(sizes, i)) {
+        if Problem::bad_size(looks::size_of(sizes, i)) {
             return i;
         }
         i += 1;

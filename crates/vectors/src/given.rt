@@ -1,10 +1,9 @@
 // The two questions about a given plan.
-use crate::lists;
 use crate::say;
 
 pub fn given(text: &[u8], at: usize, sizes: &[u8], pairs: &[u8], rows: &[u64]) {
-    let mut room = [0u8; lists::BYTES];
-    let slots = lists::bytes(text, at, &mut room);
+    let mut room = [0u8; reading::BYTES];
+    let slots = reading::bytes(text, at, &mut room);
     let count = slots.count;
     both(sizes, pairs, rows, &room[0..count]);
 }

@@ -1,14 +1,11 @@
 // Tables, and the questions about them: all lines up to the next tables.
 ghost use Prim.Native.Nat.{_<_, _≤_};
 ghost use lib.ListN.{length};
-use crate::digits;
 use crate::given;
-use crate::lines;
-use crate::lists;
-use crate::lists::Many;
 use crate::run;
 use crate::say;
 use crate::shown;
+use reading::Many;
 
 // Room for row words; some of the stored tables are past the limits.
 const ROWS: usize = 131072;
@@ -18,8 +15,8 @@ pub fn group(text: &[u8], start: usize) -> usize
     requires { ⌜ start < length (now text) ⌝ }
     ensures { λ r. ⌜ start < r ⌝ }
 {
-    let mut room = [0u8; lists::BYTES];
-    let read = lists::bytes(text, start + 1, &mut room);
+    let mut room = [0u8; reading::BYTES];
+    let read = reading::bytes(text, start + 1, &mut room);
     let boats = read.count;
     with_sizes(text, start, read.after, &room[0..boats])
 }
@@ -28,8 +25,8 @@ fn with_sizes(text: &[u8], start: usize, at: usize, sizes: &[u8]) -> usize
     requires { ⌜ start < length (now text) ⌝ }
     ensures { λ r. ⌜ start < r ⌝ }
 {
-    let mut room = [0u8; lists::BYTES];
-    let read = lists::bytes(text, at, &mut room);
+    let mut room = [0u8; reading::BYTES];
+    let read = reading::bytes(text, at, &mut room);
     let bytes = read.count;
     with_pairs(text, start, read.after, sizes, &room[0..bytes])
 }
@@ -48,7 +45,7 @@ fn with_pairs(text: &[u8], start: usize, at: usize, sizes: &[u8], pairs: &[u8]) 
 fn rows(text: &[u8], at: usize, into: &mut [u64; ROWS]) -> Many
     ensures { λ r. ⌜ r .count ≤ length (now (into .exit)) ⌝ }
 {
-    lists::numbers(digits::SIXTEEN, b',', text, at, into)
+    reading::numbers(reading::SIXTEEN, b',', text, at, into)
 }
 
 fn questions(text: &[u8], start: usize, sizes: &[u8], pairs: &[u8], rows: &[u64]) -> usize
@@ -61,14 +58,14 @@ fn questions(text: &[u8], start: usize, sizes: &[u8], pairs: &[u8], rows: &[u64]
         pairs.len() / 2,
         rows.len(),
     );
-    let mut at = lines::next_line(text, start);
+    let mut at = reading::next_line(text, start);
     while at < text.len() {
         let kind = text[at];
         if kind == b't' {
             break;
         }
         question(kind, text, at + 1, sizes, pairs, rows);
-        at = lines::next_line(text, at);
+        at = reading::next_line(text, at);
     }
     at
 }

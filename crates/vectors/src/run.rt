@@ -1,7 +1,5 @@
 // Run a method.
-use crate::digits;
 use crate::lent;
-use crate::lists;
 use crate::say;
 use problem::Reply;
 
@@ -19,7 +17,7 @@ struct Asked {
 
 pub fn run(text: &[u8], at: usize, sizes: &[u8], pairs: &[u8], rows: &[u64]) {
     let mut terms = [0u64; 5];
-    lists::numbers(digits::TEN, b' ', text, at, &mut terms);
+    reading::numbers(reading::TEN, b' ', text, at, &mut terms);
     let asked = Asked {
         method: terms[0],
         checks: terms[1],

@@ -1,11 +1,9 @@
 // Show the rows of a pair.
-use crate::digits;
-use crate::lists;
 use crate::say;
 
 pub fn shown(text: &[u8], at: usize, sizes: &[u8], pairs: &[u8], rows: &[u64]) {
     let mut boats = [0u64; 2];
-    lists::numbers(digits::TEN, b' ', text, at, &mut boats);
+    reading::numbers(reading::TEN, b' ', text, at, &mut boats);
     of_pair(sizes, pairs, rows, boats[0] as usize, boats[1] as usize);
 }
 

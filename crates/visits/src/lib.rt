@@ -42,7 +42,7 @@ pub fn check_row(row: u64, slot: u64, counts: Counts) -> Look
     match counts.check() {
         Counted::Out => Look::OutOfChecks,
         Counted::Within(k) => {
-            if problem::bit(row, slot as usize) {
+            if looks::bit(row, slot as usize) {
                 Look::Allowed(k)
             } else {
                 Look::Forbidden(k)

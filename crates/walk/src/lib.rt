@@ -6,7 +6,7 @@ ghost use Rattle.problem.specs.Tables.{Tables, tables};
 ghost use Rattle.problem.specs.Sane.{Sane};
 ghost use Rattle.events.specs.Counts.{Fits};
 ghost use Rattle.words.specs.Places.{used};
-ghost use Rattle.labelling.specs.Stored.{keptWords};
+ghost use Rattle.storing.specs.Stored.{keptWords};
 ghost use Rattle.walk.specs.declared.Ended.the-variants.{Undecided};
 ghost use Rattle.walk.specs.Walks.{Setting, Walked, Searched};
 use events::Counts;
@@ -44,7 +44,7 @@ fn stopped(
     ensures { λ r. ⌜ r ≡ Undecided counts which (record { boat = boat; slot = slot; made = made }) ⌝ }
     ensures { λ _. ⌜ now (work .exit) ≡ keptWords moves (now (work .entry)) boat set ⌝ }
 {
-    labelling::keep_set(moves, boat, set, work);
+    storing::keep_set(moves, boat, set, work);
     Ended::Undecided(counts, which, Place { boat, slot, made })
 }
 

@@ -1,7 +1,7 @@
 use mathlib.Core.Path.{ap, _∙_}
 use borrow.Author.Needs.{needs}
 use Rattle.problem.specs.Replies.{Told}
-use Rattle.harbour.specs.Handed.{handed}
+use Rattle.handing.specs.Handed.{handed}
 use Rattle.harbour.proofs.harbour_broken.Statement.{statement}
 use Rattle.harbour.proofs.harbour_broken.Tie as tie
 

@@ -1,6 +1,6 @@
 use mathlib.Core.Path.{ap, _∙_}
 use borrow.Author.Needs.{needs}
-use Rattle.planner.specs.Runs.{Result}
+use Rattle.runs.specs.Runs.{Result}
 use Rattle.harbour.specs.Handed.{handedRun}
 use Rattle.harbour.proofs.harbour_run.Statement.{statement}
 use Rattle.harbour.proofs.harbour_run.Tie as tie

@@ -7,7 +7,7 @@ use Rattle.problem.specs.Tables.{Tables, tables}
 use Rattle.methods.specs.ByPlan.{aheadByPlan}
 use Rattle.words.proofs.ChangedOnly.{only-widen}
 use Rattle.looking_ahead.specs.Ahead.{LivesAfter}
-use Rattle.labelling.proofs.Stored.{begun-below}
+use Rattle.storing.proofs.Stored.{begun-below}
 use Rattle.labelling.proofs.Labels.{AfterVisit, ahead-blaming, ahead-blames, ahead-checks, ahead-trials, ahead-spent, ahead-passed}
 use borrow.Author.Needs.{needs}
 use Rattle.labelling.proofs.label_ahead.Statement.{statement}

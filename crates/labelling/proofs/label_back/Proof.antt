@@ -4,7 +4,7 @@ use Prim.Native.Nat.{ℕ}
 use Rattle.problem.specs.Tables.{Tables, tables}
 use Rattle.methods.specs.BT.{lookingBack}
 use Rattle.words.proofs.ChangedOnly.{only-refl}
-use Rattle.labelling.proofs.Stored.{begun-below}
+use Rattle.storing.proofs.Stored.{begun-below}
 use Rattle.labelling.proofs.Labels.{AfterVisit, back-passed, back-spent, back-checks, back-trials}
 use borrow.Author.Needs.{needs}
 use Rattle.labelling.proofs.label_back.Statement.{statement}

@@ -9,8 +9,8 @@ use Rattle.problem.specs.Methods.{methodOf}
 use Rattle.problem.specs.declared.Method.{Method}
 use Rattle.problem.specs.declared.MethodFound.the-variants.{Found}
 use Rattle.problem.specs.declared.Reply.{Reply}
-use Rattle.planner.specs.Runs.{resultOf, runResult}
-use Rattle.planner.proofs.Refusing.{found-fine, found-refused, says-1, says-2-to-7, result-refused, result-lent}
+use Rattle.runs.specs.Runs.{resultOf, runResult}
+use Rattle.runs.proofs.Refusing.{found-fine, found-refused, says-1, says-2-to-7, result-refused, result-lent}
 use borrow.Author.Needs.{needs}
 use Rattle.planner.proofs.run.Statement.{statement}
 use Rattle.planner.proofs.run.Tie as tie

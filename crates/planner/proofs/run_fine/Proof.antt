@@ -16,8 +16,8 @@ use Rattle.events.specs.Counts.{Fits}
 use Rattle.words.specs.Layout.{word}
 use Rattle.walk.specs.declared.Ended.the-variants.{Solved}
 use Rattle.walk.proofs.Cut.{solved-placed}
-use Rattle.planner.specs.Runs.{resultOf}
-use Rattle.planner.proofs.Refusing.{lent-8, lent-9, lent-enough, lent-refused, lent-finished}
+use Rattle.runs.specs.Runs.{resultOf}
+use Rattle.runs.proofs.Refusing.{lent-8, lent-9, lent-enough, lent-refused, lent-finished}
 use Rattle.planner.proofs.Finished.{finished}
 use borrow.Author.Needs.{needs}
 use Rattle.planner.proofs.run_fine.Statement.{statement}

@@ -19,9 +19,9 @@ use Rattle.moves.specs.declared.Moves.{Moves}
 use Rattle.moves.specs.Memory.{Memory, memory}
 use Rattle.labelling.specs.declared.Labelled.{Labelled}
 use Rattle.labelling.specs.declared.Labelled.the-variants.{Passed, Spent, OutOfChecks, OutOfTrials}
-use Rattle.labelling.specs.Stored.{keptWords}
+use Rattle.storing.specs.Stored.{keptWords}
 use Rattle.labelling.specs.Labels.{Labels, MovesOn, NoneLeft}
-use Rattle.labelling.proofs.Stored.{kept-long}
+use Rattle.storing.proofs.Stored.{kept-long}
 use Rattle.unlabelling.specs.Unlabels.{Unlabels}
 use Rattle.walk.specs.declared.Ended.the-variants.{Undecided}
 use Rattle.walk.specs.Walks.{Arrives, Ends}

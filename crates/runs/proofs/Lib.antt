@@ -1,0 +1,4 @@
+pub mod Refusing
+pub mod Accepting
+pub mod Theorems
+pub mod Wrong
