@@ -23,12 +23,13 @@ use Rattle.words.specs.Layout.{zeroed}
 use Rattle.words.proofs.ChangedOnly.{only-drop}
 use Rattle.words.proofs.Zeroed.{zeroed-same}
 use Rattle.moves.specs.Memory.{movesOf, stepsBy}
-use Rattle.walk.specs.declared.Ended.{Ended}
-use Rattle.walk.specs.declared.Ended.the-variants.{Solved, NoPlan, Undecided}
-use Rattle.walk.specs.Walks.{countsThen, decisionThen, Searched}
+use Rattle.ends.specs.declared.Ended.{Ended}
+use Rattle.ends.specs.declared.Ended.the-variants.{Solved, NoPlan, Undecided}
+use Rattle.ends.specs.Ends.{countsThen, decisionThen}
+use Rattle.walk.specs.Walks.{Searched}
 use Rattle.walk.proofs.Cut.{ended-cut}
 use Rattle.runs.specs.Runs.{decisionTold, written, Result, finishedResult, resultOf}
-use Rattle.telling.specs.Replies.{answerOf, replyOf}
+use Rattle.ends.specs.Replies.{answerOf, replyOf}
 
 -- the form that the code follows makes the events of the method as it is defined
 search-by : (chosen : Method) (t : Tables) → search t (stepsBy (movesOf chosen) t) ≡ searchBy chosen t

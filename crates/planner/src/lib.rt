@@ -30,16 +30,16 @@ fn run_fine(
 {
     let n = sizes.len();
     if plan.len() < n {
-        return telling::refused(Refusal::PlanMemory);
+        return ends::refused(Refusal::PlanMemory);
     }
     if Problem::short_work(work.len()) {
-        return telling::refused(Refusal::WorkMemory);
+        return ends::refused(Refusal::WorkMemory);
     }
     let moves = moves::moves_of(method);
     let ended = walk::search(moves, sizes, pairs, rows, Counts::new(checks, trials), work);
-    telling::write_plan(ended, n, work, plan);
+    ends::write_plan(ended, n, work, plan);
     words::clear(work);
-    telling::reply_of(ended)
+    ends::reply_of(ended)
 }
 
 // Runs a method by its number. Only a run that is not refused changes what is lent: a solved one writes the plan, and each leaves the first 8,192 words 0.
@@ -57,12 +57,12 @@ pub fn run(
 {
     let named = Problem::method_of(method);
     let MethodFound::Found(chosen) = named else {
-        return telling::refused(Refusal::Method);
+        return ends::refused(Refusal::Method);
     };
     // An else binds nothing, so it is the refusal that is bound here, and returned below with counts 0.
     let examined = tables::examine(sizes, pairs, rows);
     let Examined::Refused(why) = examined else {
         return run_fine(chosen, sizes, pairs, rows, plan, work, checks, trials);
     };
-    telling::refused(why)
+    ends::refused(why)
 }

@@ -49,7 +49,8 @@ fn jump_back(i: usize, blamed: u64, work: &mut [u64]) -> Unlabelled
         return Unlabelled::NoPlan;
     }
     let h = words::deepest_of(blamed);
-    work[Words::SETS + h] = words::handed_down(blamed, work[Words::SETS + h], h);
+    let joined = words::handed_down(blamed, work[Words::SETS + h], h);
+    storing::store_set(h, joined, work);
     Unlabelled::Back(h)
 }
 

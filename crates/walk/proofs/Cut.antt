@@ -20,10 +20,11 @@ use Rattle.words.specs.Layout.{Placed}
 use Rattle.visits.proofs.Ends.{stops-leads, stops-ends}
 use Rattle.moves.specs.declared.Moves.{Moves}
 use Rattle.moves.specs.Memory.{Memory, stepsBy, memory}
-use Rattle.walk.specs.declared.Place.{Place}
-use Rattle.walk.specs.declared.Ended.{Ended}
-use Rattle.walk.specs.declared.Ended.the-variants.{Solved, NoPlan, Undecided}
-use Rattle.walk.specs.Walks.{countsThen, decisionThen, Arrives, EndsSolved, EndsInside, EndsAt, Ends}
+use Rattle.ends.specs.declared.Place.{Place}
+use Rattle.ends.specs.declared.Ended.{Ended}
+use Rattle.ends.specs.declared.Ended.the-variants.{Solved, NoPlan, Undecided}
+use Rattle.ends.specs.Ends.{countsThen, decisionThen}
+use Rattle.walk.specs.Walks.{Arrives, EndsSolved, EndsInside, EndsAt, Ends}
 
 -- a step that stops leaves nothing to come but the ending
 cut-stop : (k : Counts) (r : Ending) {S : Type 0} (rest : List ℕ → ℕ → S → Search) → cutAt k (onward rest (stop r)) ≡ outcome (decided r) (k .checks) (k .trials)

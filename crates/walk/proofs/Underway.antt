@@ -29,8 +29,8 @@ use Rattle.moves.specs.Memory.{Memory, stepsBy, memory, Kept}
 use Rattle.moves.specs.Prepared.{Prepared}
 use Rattle.labelling.specs.Labels.{MovesOn, NoneLeft, Halts}
 use Rattle.unlabelling.specs.Unlabels.{GoesBack}
-use Rattle.walk.specs.declared.Ended.{Ended}
-use Rattle.walk.specs.declared.Ended.the-variants.{Undecided}
+use Rattle.ends.specs.declared.Ended.{Ended}
+use Rattle.ends.specs.declared.Ended.the-variants.{Undecided}
 use Rattle.walk.specs.Walks.{Arrives, EndsNoPlan, EndsAt, Ends, Setting, Walked, Searched}
 
 pub placed-of : (moves : Moves) (t : Tables) (w : List ℕ) (i : ℕ) → Kept moves t w i → Placed t w i

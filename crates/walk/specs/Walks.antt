@@ -6,8 +6,7 @@ use lib.ListN.{length, take}
 use Rattle.problem.specs.Tables.{Tables, boats}
 use Rattle.problem.specs.Sane.{Sane}
 use Rattle.problem.specs.declared.Allowance.{Allowance}
-use Rattle.events.specs.Events.{Event, solved, noPlan}
-use Rattle.events.specs.Allowances.{Decision, decided, undecided}
+use Rattle.events.specs.Events.{Event, noPlan}
 use Rattle.events.specs.declared.Counts.{Counts}
 use Rattle.events.specs.Counts.{Fits, Makes}
 use Rattle.methods.specs.Machine.{stop, step}
@@ -17,20 +16,9 @@ use Rattle.words.specs.Layout.{ChangedOnly, Placed}
 use Rattle.visits.specs.Visits.{StopsAt}
 use Rattle.moves.specs.declared.Moves.{Moves}
 use Rattle.moves.specs.Memory.{Memory, stepsBy, memory, Kept}
-use Rattle.walk.specs.declared.Place.{Place}
-use Rattle.walk.specs.declared.Ended.{Ended}
-use Rattle.walk.specs.declared.Ended.the-variants.{Solved, NoPlan, Undecided}
-
--- the counts at an end, and the decision, where the boats hold the slots p
-abbrev pub countsThen : Ended → Counts
-countsThen (Solved k) = k
-countsThen (NoPlan k) = k
-countsThen (Undecided k which at) = k
-
-abbrev pub decisionThen : Ended → (p : List ℕ) → Decision
-decisionThen (Solved k) p = decided (solved p)
-decisionThen (NoPlan k) p = decided noPlan
-decisionThen (Undecided k which at) p = undecided which
+use Rattle.ends.specs.declared.Place.{Place}
+use Rattle.ends.specs.declared.Ended.{Ended}
+use Rattle.ends.specs.declared.Ended.the-variants.{Solved, NoPlan, Undecided}
 
 -- ---- from choice a after the plan so far p, with σ remembered and the counts m
 module _ (moves : Moves) (t : Tables) (p : List ℕ) (a : ℕ) (σ : Memory moves) (m : Counts) where

@@ -6,28 +6,16 @@ ghost use Rattle.problem.specs.Tables.{Tables, tables};
 ghost use Rattle.problem.specs.Sane.{Sane};
 ghost use Rattle.events.specs.Counts.{Fits};
 ghost use Rattle.words.specs.Places.{used};
+ghost use Rattle.ends.specs.declared.Ended.the-variants.{Undecided};
 ghost use Rattle.storing.specs.Stored.{keptWords};
-ghost use Rattle.walk.specs.declared.Ended.the-variants.{Undecided};
 ghost use Rattle.walk.specs.Walks.{Setting, Walked, Searched};
+use ends::Ended;
+use ends::Place;
 use events::Counts;
 use labelling::Labelled;
 use moves::Moves;
 use problem::Allowance;
 use visits::Unlabelled;
-
-// Where a run stands that an allowance ends: the boat and the slot at hand, and how many events of that slot's step are made.
-pub struct Place {
-    pub boat: usize,
-    pub slot: u64,
-    pub made: u64,
-}
-
-// How a walk ends.
-pub enum Ended {
-    Solved(Counts),
-    NoPlan(Counts),
-    Undecided(Counts, Allowance, Place),
-}
 
 // The words get the set in hand here, once a run, and not where a visit ends.
 fn stopped(

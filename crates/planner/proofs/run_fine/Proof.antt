@@ -14,7 +14,7 @@ use Rattle.tables.proofs.Fine.{fine-sane}
 use Rattle.events.specs.declared.Counts.{Counts}
 use Rattle.events.specs.Counts.{Fits}
 use Rattle.words.specs.Layout.{word}
-use Rattle.walk.specs.declared.Ended.the-variants.{Solved}
+use Rattle.ends.specs.declared.Ended.the-variants.{Solved}
 use Rattle.walk.proofs.Cut.{solved-placed}
 use Rattle.runs.specs.Runs.{resultOf}
 use Rattle.runs.proofs.Refusing.{lent-8, lent-9, lent-enough, lent-refused, lent-finished}

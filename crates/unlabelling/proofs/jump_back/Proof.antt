@@ -27,22 +27,18 @@ handed-down-requires c κs =
     let d = c .before .deepest-of .ensures in
     (d .small, ((d .low, d .high), p .3 (c .before .deepest-of .result) (le-of-lt (deepest-below (p .2) d))))
 
-add-work : tie.Need-add-work
-add-work c = search needs
-
-mul-work : tie.Need-mul-work
-mul-work c = search needs
-
-slice-write-work : tie.Need-slice-write-work
-slice-write-work c = search needs
+store-set-requires : tie.Need-store-set-requires
+store-set-requires c κs = (c .before .before .before .deepest-of .ensures .small, c .before .before .before .before .before .before .pre .1)
 
 same-length : tie.Need-same-length
 same-length c = search needs
 
 returns-2 : tie.Need-returns-2
 returns-2 c =
-    let s = c .before .before .before .before .before in
-    hands-down (s .args .work .now) (s .pre .0) (s .pre .1) (s .pre .2) (c .before .before .deepest-of .ensures) (c .handed-down .ensures)
+    let x = c .before .before in
+    let d = x .before .before in
+    let s = d .before .before .before .before .before in
+    rw (x .store-set .ensures) (hands-down (s .args .work .now) (s .pre .0) (s .pre .1) (s .pre .2) (d .before .before .deepest-of .ensures) (d .handed-down .ensures))
 
 pub jump-back-spec : {M : Type 1} → statement M
 jump-back-spec =
@@ -54,8 +50,6 @@ jump-back-spec =
     mul-handed-down
     slice-read-handed-down
     handed-down-requires
-    add-work
-    mul-work
-    slice-write-work
+    store-set-requires
     same-length
     returns-2)

@@ -23,7 +23,7 @@ use Rattle.storing.specs.Stored.{keptWords}
 use Rattle.labelling.specs.Labels.{Labels, MovesOn, NoneLeft}
 use Rattle.storing.proofs.Stored.{kept-long}
 use Rattle.unlabelling.specs.Unlabels.{Unlabels}
-use Rattle.walk.specs.declared.Ended.the-variants.{Undecided}
+use Rattle.ends.specs.declared.Ended.the-variants.{Undecided}
 use Rattle.walk.specs.Walks.{Arrives, Ends}
 use Rattle.walk.proofs.Underway.{Underway, begins, long, forward, forward-less, halted, left-long, no-plan, given-up, backward, backward-less, placed-of}
 use Rattle.walk.proofs.walk.Statement.{statement}

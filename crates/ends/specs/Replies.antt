@@ -3,9 +3,9 @@ use Rattle.problem.specs.declared.Answer.{Answer}
 use Rattle.problem.specs.declared.Answer.the-variants.{Solved, NoPlan, Undecided, Refused}
 use Rattle.problem.specs.declared.Reply.{Reply}
 use Rattle.problem.specs.declared.Refusal.{Refusal}
-use Rattle.walk.specs.declared.Ended.{Ended}
-use Rattle.walk.specs.declared.Ended.the-variants.{Solved as EndSolved, NoPlan as EndNoPlan, Undecided as EndUndecided}
-use Rattle.walk.specs.Walks.{countsThen}
+use Rattle.ends.specs.declared.Ended.{Ended}
+use Rattle.ends.specs.declared.Ended.the-variants.{Solved as EndSolved, NoPlan as EndNoPlan, Undecided as EndUndecided}
+use Rattle.ends.specs.Ends.{countsThen}
 
 -- a refusal as a reply
 abbrev pub refusedReply : Refusal → Reply

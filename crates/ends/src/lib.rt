@@ -1,19 +1,33 @@
-// How a run came out: its reply, and the plan in the lent memory.
+// How a run ends, how that is told, and the plan written to the lent memory.
 ghost use mathlib.Core.Path.{_≡_};
 ghost use mathlib.Core.List.{_++_};
 ghost use Prim.Native.Nat.{ℕ, _≤_, _<_};
 ghost use lib.ListN.{length, take, drop};
 ghost use Rattle.words.specs.Layout.{word};
 ghost use Rattle.events.specs.declared.Counts.{Counts};
-ghost use Rattle.walk.specs.declared.Ended.the-variants.{Solved};
-ghost use Rattle.walk.specs.Walks.{decisionThen};
+ghost use Rattle.ends.specs.declared.Ended.the-variants.{Solved};
+ghost use Rattle.ends.specs.Ends.{decisionThen};
 ghost use Rattle.runs.specs.Runs.{written};
-ghost use Rattle.telling.specs.Replies.{refusedReply, replyOf};
+ghost use Rattle.ends.specs.Replies.{refusedReply, replyOf};
 use events::Counts;
+use problem::Allowance;
 use problem::Answer;
 use problem::Refusal;
 use problem::Reply;
-use walk::Ended;
+
+// Where a run stands that an allowance ends: the boat and the slot at hand, and how many events of that slot's step are made.
+pub struct Place {
+    pub boat: usize,
+    pub slot: u64,
+    pub made: u64,
+}
+
+// How a search ends.
+pub enum Ended {
+    Solved(Counts),
+    NoPlan(Counts),
+    Undecided(Counts, Allowance, Place),
+}
 
 pub fn refused(why: Refusal) -> Reply
     ensures { λ r. ⌜ r ≡ refusedReply why ⌝ }

@@ -4,11 +4,11 @@ use Prim.Native.Nat.{ℕ}
 use borrow.Author.Needs.{needs}
 use lib.ListN.{length, take, drop}
 use lib.Seq.{length-take-le}
-use Rattle.walk.specs.declared.Ended.{Ended}
-use Rattle.walk.specs.Walks.{decisionThen}
+use Rattle.ends.specs.declared.Ended.{Ended}
+use Rattle.ends.specs.Ends.{decisionThen}
 use Rattle.runs.specs.Runs.{written}
-use Rattle.telling.proofs.write_plan.Statement.{statement}
-use Rattle.telling.proofs.write_plan.Tie as tie
+use Rattle.ends.proofs.write_plan.Statement.{statement}
+use Rattle.ends.proofs.write_plan.Tie as tie
 
 enum-told : tie.Need-enum-told
 enum-told c = search needs

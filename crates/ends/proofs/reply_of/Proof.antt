@@ -1,8 +1,8 @@
 use mathlib.Core.Path.{sym, ap, _∙_}
 use borrow.Author.Needs.{needs}
-use Rattle.telling.specs.Replies.{replyOf}
-use Rattle.telling.proofs.reply_of.Statement.{statement}
-use Rattle.telling.proofs.reply_of.Tie as tie
+use Rattle.ends.specs.Replies.{replyOf}
+use Rattle.ends.proofs.reply_of.Statement.{statement}
+use Rattle.ends.proofs.reply_of.Tie as tie
 
 enum-known-ended : tie.Need-enum-known-ended
 enum-known-ended c = search needs

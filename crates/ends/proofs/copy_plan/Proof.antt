@@ -5,9 +5,9 @@ use Prim.Native.Nat.{ℕ, _+_, _-_, _≤_}
 use borrow.Author.Needs.{needs}
 use native.Mathlib.Omega.{arith}
 use lib.ListN.{length, getD, take, drop, set, length-set}
-use Rattle.telling.proofs.Copying.{copied-more}
-use Rattle.telling.proofs.copy_plan.Statement.{statement}
-use Rattle.telling.proofs.copy_plan.Tie as tie
+use Rattle.ends.proofs.Copying.{copied-more}
+use Rattle.ends.proofs.copy_plan.Statement.{statement}
+use Rattle.ends.proofs.copy_plan.Tie as tie
 
 abbrev Inv-loop : tie.InvT-loop
 Inv-loop n work plan₀ k₀ plan k = (k ≤ n) × (length plan ≡ length plan₀) × (plan ≡ take k work ++ drop k plan₀)
