@@ -1,6 +1,6 @@
 -- What is to come behind the choices that a boat has given up, and behind whole steps.
 use mathlib.Core.Path.{_≡_, refl, sym, ap, _∙_, subst}
-use mathlib.Core.List.{List, [], _++_, append-assoc, append-nil}
+use mathlib.Core.List.{List, _++_, append-assoc, append-nil}
 use Prim.Native.Nat.{ℕ, suc, _≤_}
 use native.Mathlib.Nat.{le-refl}
 use native.Mathlib.Omega.{arith}
@@ -8,7 +8,7 @@ use Rattle.problem.specs.Tables.{Tables}
 use Rattle.events.specs.Events.{Event, Search, _then_}
 use Rattle.events.proofs.Leading.{then-append}
 use Rattle.methods.specs.Machine.{Steps, searchFrom}
-use Rattle.methods.specs.Reached.{Reached, start, later, StepsTo, here, onward}
+use Rattle.methods.specs.Reached.{Reached, later, StepsTo, here, onward}
 use Rattle.methods.specs.GivenUp.{GivenUp, none, more}
 use Rattle.methods.proofs.StepsLeft.{search-next}
 
@@ -38,7 +38,7 @@ module _ (t : Tables) {S : Type 0} (M : Steps S) {p : List ℕ} {a : ℕ} {σ : 
   steps-given-up {es} {q} P (more {es = fs} {b = c} {fs = gs} {υ = υ} G e) =
       subst (λ (hs : List Event). StepsTo t M p a σ hs q (suc c) υ) (append-assoc es fs gs) (onward (steps-given-up P G) e)
 
--- from the beginning they lead to places that the search comes to
-pub steps-reached : (t : Tables) {S : Type 0} (M : Steps S) {es : List Event} {q : List ℕ} {b : ℕ} {τ : S} → StepsTo t M [] 0 (M .start) es q b τ → Reached t M q b τ
-steps-reached t M here = start
-steps-reached t M (onward P e) = later (steps-reached t M P) e
+  -- from a place that the search comes to they lead to such places
+  pub steps-reached : {es : List Event} {q : List ℕ} {b : ℕ} {τ : S} → Reached t M p a σ → StepsTo t M p a σ es q b τ → Reached t M q b τ
+  steps-reached r here = r
+  steps-reached r (onward P e) = later (steps-reached r P) e

@@ -1,11 +1,16 @@
 -- The places that a search comes to, and a place from which the rest of it is to come. (They are words of the theorems on jumps and on stopping, and of the walk's contract.)
 use mathlib.Core.Path.{_≡_}
 use mathlib.Core.List.{List, [], _++_}
-use Prim.Native.Nat.{ℕ}
-use lib.ListN.{drop}
+use Prim.Native.Nat.{ℕ, _≤_}
+use lib.ListN.{length, drop}
 use Rattle.problem.specs.Tables.{Tables}
 use Rattle.events.specs.Events.{Event, Search}
-use Rattle.methods.specs.Machine.{Steps, next, step, searchInside}
+use Rattle.methods.specs.Machine.{Steps, Step, stop, next, step, searchInside}
+
+-- the events of a step; one that stops has none
+abbrev pub eventsOf : {S : Type 0} → Step S → List Event
+eventsOf (stop r) = []
+eventsOf (next es p a σ) = es
 
 module _ (t : Tables) {S : Type 0} (M : Steps S) where
   -- the beginning, and what a step makes of such a place
@@ -26,6 +31,7 @@ module _ (t : Tables) {S : Type 0} (M : Steps S) where
     pub memory : S
     pub made : ℕ
     pub reached : Reached plan choice memory
+    pub ofItsStep : made ≤ length (eventsOf (step t M plan choice memory))
     pub comes : searchInside t M made plan choice memory ≡ s
 
 -- a search without its first k events
