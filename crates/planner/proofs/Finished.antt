@@ -26,7 +26,7 @@ use Rattle.moves.specs.Memory.{movesOf, stepsBy}
 use Rattle.ends.specs.declared.Ended.{Ended}
 use Rattle.ends.specs.declared.Ended.the-variants.{Solved, NoPlan, Undecided}
 use Rattle.ends.specs.Ends.{countsThen, decisionThen}
-use Rattle.walk.specs.Walks.{Searched}
+use Rattle.searching.specs.Searched.{Searched}
 use Rattle.walk.proofs.Cut.{ended-cut}
 use Rattle.runs.specs.Runs.{decisionTold, written, Result, finishedResult, resultOf}
 use Rattle.ends.specs.Replies.{answerOf, replyOf}

@@ -36,7 +36,7 @@ fn run_fine(
         return ends::refused(Refusal::WorkMemory);
     }
     let moves = moves::moves_of(method);
-    let ended = walk::search(moves, sizes, pairs, rows, Counts::new(checks, trials), work);
+    let ended = searching::search(moves, sizes, pairs, rows, Counts::new(checks, trials), work);
     ends::write_plan(ended, n, work, plan);
     words::clear(work);
     ends::reply_of(ended)

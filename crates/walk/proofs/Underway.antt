@@ -26,12 +26,10 @@ use Rattle.visits.proofs.Ends.{come-le}
 use Rattle.moves.specs.declared.Moves.{Moves}
 use Rattle.moves.specs.declared.Moves.the-variants.{LookingBack, Marking, LookingAhead}
 use Rattle.moves.specs.Memory.{Memory, stepsBy, memory, Kept}
-use Rattle.moves.specs.Prepared.{Prepared}
 use Rattle.labelling.specs.Labels.{MovesOn, NoneLeft, Halts}
 use Rattle.unlabelling.specs.Unlabels.{GoesBack}
-use Rattle.ends.specs.declared.Ended.{Ended}
 use Rattle.ends.specs.declared.Ended.the-variants.{Undecided}
-use Rattle.walk.specs.Walks.{Arrives, EndsNoPlan, EndsAt, Ends, Setting, Walked, Searched}
+use Rattle.walk.specs.Walks.{Arrives, EndsNoPlan, Ends, Setting}
 
 pub placed-of : (moves : Moves) (t : Tables) (w : List ℕ) (i : ℕ) → Kept moves t w i → Placed t w i
 placed-of (LookingBack backward) t w i k = k .words .placed
@@ -167,12 +165,3 @@ module _ (moves : Moves) (t : Tables) (s : Sane t) (p₀ : List ℕ) (a₀ : ℕ
               subst (λ (p : List ℕ). stepsLeftOf t p (suc (word w′ h)) < stepsLeftOf t (take i w) a) (ap (take h) (sym (z .same)) ∙ back-plan)
               (subst (λ (y : ℕ). stepsLeftOf t (take h (take i w)) (suc y) < stepsLeftOf t (take i w) a) (ap (λ (p : List ℕ). getD p h 0) (sym (z .same)) ∙ back-choice)
               (return-falls t (take i w) a short h lh))
-
--- ---- from the beginning: w₀ is cleared to w₁, which made ready is w, from which the walk goes to w′
-pub from-start : (moves : Moves) (t : Tables) (w₀ w₁ w w′ : List ℕ) (m : Counts) (r : Ended) → ChangedOnly 0 used w₀ w₁ → Prepared moves t w₁ w → Walked moves t w 0 0 m w′ r →
-    Searched moves t w₀ m w′ r
-from-start moves t w₀ w₁ w w′ m r o p e =
-    record {
-      only = only-trans o (only-trans (p .only) (e .only));
-      ends = subst (λ (σ : Memory moves). EndsAt moves t [] 0 σ m w′ r) (p .fresh) (e .ends);
-    }

@@ -1,6 +1,6 @@
--- Where a walk ends, from any place and from the beginning.
+-- Where a walk ends, from any place.
 use mathlib.Core.Path.{_≡_}
-use mathlib.Core.List.{List, []}
+use mathlib.Core.List.{List}
 use Prim.Native.Nat.{ℕ, _≤_, _<_}
 use lib.ListN.{length, take}
 use Rattle.problem.specs.Tables.{Tables, boats}
@@ -71,7 +71,3 @@ pub record Setting (moves : Moves) (t : Tables) (w : List ℕ) (i : ℕ) (m : Co
 
 abbrev pub Walked : (moves : Moves) → Tables → List ℕ → (i a : ℕ) → Counts → List ℕ → Ended → Type 0
 Walked moves t w i a m w′ r = Ends moves t (take i w) a (memory moves w i) w m w′ r
-
--- ---- from the beginning
-abbrev pub Searched : (moves : Moves) → Tables → List ℕ → Counts → List ℕ → Ended → Type 0
-Searched moves t w m w′ r = Ends moves t [] 0 (stepsBy moves t .start) w m w′ r

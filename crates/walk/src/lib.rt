@@ -3,12 +3,10 @@ ghost use mathlib.Core.Path.{_≡_};
 ghost use Prim.Native.Nat.{_≤_, _<_};
 ghost use lib.ListN.{length};
 ghost use Rattle.problem.specs.Tables.{Tables, tables};
-ghost use Rattle.problem.specs.Sane.{Sane};
-ghost use Rattle.events.specs.Counts.{Fits};
 ghost use Rattle.words.specs.Places.{used};
 ghost use Rattle.ends.specs.declared.Ended.the-variants.{Undecided};
 ghost use Rattle.storing.specs.Stored.{keptWords};
-ghost use Rattle.walk.specs.Walks.{Setting, Walked, Searched};
+ghost use Rattle.walk.specs.Walks.{Setting, Walked};
 use ends::Ended;
 use ends::Place;
 use events::Counts;
@@ -80,25 +78,4 @@ pub fn walk(
         }
     }
     Ended::Solved(counts)
-}
-
-// From the beginning. The words are cleared first.
-pub fn search(
-    moves: Moves,
-    sizes: &[u8],
-    pairs: &[u8],
-    rows: &[u64],
-    start: Counts,
-    work: &mut [u64],
-) -> Ended
-    ghost { Tables }
-    requires { λ t. ⌜ tables (now sizes) (now pairs) (now rows) ≡ t ⌝ }
-    requires { λ t. ⌜ Sane t ⌝ }
-    requires { λ _. ⌜ used ≤ length (now work) ⌝ }
-    requires { λ _. ⌜ Fits start ⌝ }
-    ensures { λ t r. ⌜ Searched moves t (now (work .entry)) start (now (work .exit)) r ⌝ }
-{
-    words::clear(work);
-    moves::prepare(moves, sizes, pairs, rows, work);
-    walk(moves, sizes, pairs, rows, 0, 0, start, work)
 }

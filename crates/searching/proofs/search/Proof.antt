@@ -7,9 +7,9 @@ use borrow.Author.Needs.{needs}
 use lib.ListN.{length}
 use Rattle.words.specs.Layout.{word}
 use Rattle.words.proofs.Zeroed.{zeroed-at, zeroed-long, zeroed-only}
-use Rattle.walk.proofs.Underway.{from-start}
-use Rattle.walk.proofs.search.Statement.{statement}
-use Rattle.walk.proofs.search.Tie as tie
+use Rattle.searching.proofs.Starts.{from-start}
+use Rattle.searching.proofs.search.Statement.{statement}
+use Rattle.searching.proofs.search.Tie as tie
 
 -- the function's entry, seen from where the words are cleared
 abbrev entry : tie.After-clear → tie.Start
