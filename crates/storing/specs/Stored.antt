@@ -13,7 +13,7 @@ use Rattle.moves.specs.declared.Moves.the-variants.{LookingBack, Marking, Looki
 abbrev pub passedWords : List ℕ → (i b s : ℕ) → List ℕ
 passedWords w i b s = set (set (set w i b) (setAt i) s) (nextSetAt i) 0
 
--- boat i has no slot left: its set is s
+-- boat i keeps the set s
 abbrev pub setStored : List ℕ → (i s : ℕ) → List ℕ
 setStored w i s = set w (setAt i) s
 

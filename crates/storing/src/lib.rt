@@ -19,7 +19,7 @@ pub fn begun_set(backward: Backward, i: usize, work: &[u64]) -> u64
     }
 }
 
-// Boat i has no slot left.
+// Boat i keeps this set: it has no slot left, or takes the set over on the way back.
 pub fn store_set(i: usize, set: u64, work: &mut [u64])
     requires { ⌜ (i < 64) × (used ≤ length (now work)) ⌝ }
     ensures { λ _. ⌜ now (work .exit) ≡ setStored (now (work .entry)) i set ⌝ }
