@@ -24,7 +24,7 @@ use Rattle.labelling.specs.Labels.{Labels, MovesOn, NoneLeft}
 use Rattle.storing.proofs.Stored.{kept-long}
 use Rattle.unlabelling.specs.Unlabels.{Unlabels}
 use Rattle.ends.specs.declared.Ended.the-variants.{Undecided}
-use Rattle.walk.specs.Walks.{Arrives, Ends}
+use Rattle.walk.specs.Walks.{Arrives, EndsSolved, Ends}
 use Rattle.walk.proofs.Underway.{Underway, begins, long, forward, forward-less, halted, left-long, no-plan, given-up, backward, backward-less, placed-of}
 use Rattle.walk.proofs.walk.Statement.{statement}
 use Rattle.walk.proofs.walk.Tie as tie
@@ -120,13 +120,14 @@ module _ (u : tie.After-unlabel Inv-loop μ-loop) where
   gone : (r : Unlabelled) → u .unlabel .result ≡ r → Unlabels (M (head label)) (T (head label)) (labelled label) (head label .loop .i) unlabelled r
   gone r e = subst (Unlabels (M (head label)) (T (head label)) (labelled label) (head label .loop .i) unlabelled) e (u .unlabel .ensures)
 
--- ---- an allowance has run out: the set in hand is still to be kept
-kept-room : (d : tie.After-label Inv-loop μ-loop) (set : ℕ) →
+-- ---- an allowance has run out: the set in hand is still to be kept, and no word has come or gone
+labelled-long : (d : tie.After-label Inv-loop μ-loop) (set : ℕ) →
     let l = head d in
-    ChangedOnly 0 used (begun l) (keptWords (M l) (labelled d) (l .loop .i) set) → (l .loop .i < 64) × (used ≤ length (labelled d))
-kept-room d set o =
-    let l = head d in
-    (omega (arith, onboard d, sane l .fewBoats), omega (arith, kept-long (M l) (labelled d) (l .loop .i) set, o .long, room l))
+    ChangedOnly 0 used (begun l) (keptWords (M l) (labelled d) (l .loop .i) set) → length (labelled d) ≡ length (begun l)
+labelled-long d set o = let l = head d in omega (arith, kept-long (M l) (labelled d) (l .loop .i) set, o .long)
+
+kept-room : (d : tie.After-label Inv-loop μ-loop) → length (labelled d) ≡ length (begun (head d)) → (head d .loop .i < 64) × (used ≤ length (labelled d))
+kept-room d e = let l = head d in (omega (arith, onboard d, sane l .fewBoats), omega (arith, room l))
 
 module _ (c : tie.After-known-told4 Inv-loop μ-loop) where
   abbrev there : tie.After-label Inv-loop μ-loop
@@ -164,6 +165,17 @@ module _ (c : tie.After-known-told5 Inv-loop μ-loop) where
       let g = c .before .k4 .given in
       halted (M l) (T l) (sane l) (P l) (A l) (Σ l) (begun l) (start l) (room l) _ _ _ _ (l .loop .inv) (onboard then) _ Trials (g .0 .1 .1 .0) 0 (g .0 .0)
       (ended then (OutOfTrials (g .0 .0) (g .0 .1 .0) (g .0 .1 .1 .0)) (g .1))
+
+-- ---- all boats are placed
+all-placed : (l : Head) → l .loop .i ≡ boats (T l) → EndsSolved (M l) (T l) (P l) (A l) (Σ l) (start l) (l .loop .work) (l .loop .counts)
+all-placed l all =
+    record {
+      choice = l .loop .slot;
+      remembered = memory (M l) (l .loop .work) (l .loop .i);
+      arrives = subst (λ (i : ℕ). Arrives (M l) (T l) (P l) (A l) (Σ l) (start l) (take i (l .loop .work)) (l .loop .slot) (memory (M l) (l .loop .work) (l .loop .i)) (l .loop .counts)) all
+          (l .loop .inv .arrives);
+      placed = subst (λ (i : ℕ). Placed (T l) (l .loop .work) i) all (placed-of (M l) (T l) _ _ (l .loop .inv .kept));
+    }
 
 loop-holds : tie.Need-loop-holds Inv-loop μ-loop
 loop-holds c =
@@ -266,10 +278,13 @@ enum-known-k-3 : tie.Need-enum-known-k-3 Inv-loop μ-loop
 enum-known-k-3 c = search needs
 
 stopped-requires : tie.Need-stopped-requires Inv-loop μ-loop
-stopped-requires c κs = kept-room (there (c .before)) _ (checks-out (c .before) .only)
+stopped-requires c κs = let k = c .before in kept-room (there k) (labelled-long (there k) _ (checks-out k .only))
 
 same-length-2 : tie.Need-same-length-2 Inv-loop μ-loop
-same-length-2 c = rw (c .before .before .stopped .ensures .1) (checks-out (c .before .before .before .before) .only .long)
+same-length-2 c =
+    let x = c .before .before in
+    let k = x .before .before in
+    rw (x .stopped .ensures .1, kept-long) (labelled-long (there k) _ (checks-out k .only))
 
 returns-2 : tie.Need-returns-2 Inv-loop μ-loop
 returns-2 c = let x = c .before .before in rw (x .stopped .ensures .0, x .stopped .ensures .1) (checks-out (x .before .before))
@@ -278,10 +293,13 @@ enum-known-k-4 : tie.Need-enum-known-k-4 Inv-loop μ-loop
 enum-known-k-4 c = search needs
 
 stopped-requires-2 : tie.Need-stopped-requires-2 Inv-loop μ-loop
-stopped-requires-2 c κs = kept-room (then (c .before)) _ (trials-out (c .before) .only)
+stopped-requires-2 c κs = let k = c .before in kept-room (then k) (labelled-long (then k) _ (trials-out k .only))
 
 same-length-3 : tie.Need-same-length-3 Inv-loop μ-loop
-same-length-3 c = rw (c .before .before .stopped2 .ensures .1) (trials-out (c .before .before .before .before) .only .long)
+same-length-3 c =
+    let x = c .before .before in
+    let k = x .before .before in
+    rw (x .stopped2 .ensures .1, kept-long) (labelled-long (then k) _ (trials-out k .only))
 
 returns-3 : tie.Need-returns-3 Inv-loop μ-loop
 returns-3 c = let x = c .before .before in rw (x .stopped2 .ensures .0, x .stopped2 .ensures .1) (trials-out (x .before .before))
@@ -292,17 +310,7 @@ same-length-4 c = c .before .loop .inv .only .long
 returns-4 : tie.Need-returns-4 Inv-loop μ-loop
 returns-4 c =
     let l = c .before in
-    let all : l .loop .i ≡ boats (T l) = omega (arith, l .loop .inv .boat, c .loop-test .left) in
-    record {
-      only = l .loop .inv .only;
-      ends = record {
-        choice = l .loop .slot;
-        remembered = memory (M l) (l .loop .work) (l .loop .i);
-        arrives = subst (λ (i : ℕ). Arrives (M l) (T l) (P l) (A l) (Σ l) (start l) (take i (l .loop .work)) (l .loop .slot) (memory (M l) (l .loop .work) (l .loop .i)) (l .loop .counts)) all
-            (l .loop .inv .arrives);
-        placed = subst (λ (i : ℕ). Placed (T l) (l .loop .work) i) all (placed-of (M l) (T l) _ _ (l .loop .inv .kept));
-      };
-    }
+    record { only = l .loop .inv .only; ends = all-placed l (omega (arith, l .loop .inv .boat, c .loop-test .left)) }
 
 pub walk-spec : {M : Type 1} → statement M
 walk-spec =
