@@ -1,12 +1,15 @@
-# make run      builds the library, proved, and an example; plans a harbour with it
-# make outside  holds the library, through its C header, to the second program and to lists of due
-#               answers: SECONDS=n says how long fresh seeds are drawn, SEED=n repeats a run
-# make bench    times the library beside a plain C search that gcc and, where there is one, clang
-#               build (GCC=.. and CLANG=.. name others); `target/bench/bench each` then gives a line
-#               for each file too
-# make vectors  writes the stored problems and replies of crates/vectors anew
-# make gate     proves every crate from nothing, tries the must-fail edits, runs the programs
-# make clean    removes all that was built and proved
+# make run       builds the library, proved, and an example; plans a harbour with it
+# make install   puts the header, both libraries and a pkg-config file under PREFIX (/usr/local), or
+#                stages them under DESTDIR; make uninstall removes them
+# make outside   holds the library, through its C header, to the second program and to lists of due
+#                answers: SECONDS=n says how long fresh seeds are drawn, SEED=n repeats a run
+# make bench     times the library beside a plain C search that gcc and, where there is one, clang
+#                build (GCC=.. and CLANG=.. name others); `target/bench/bench each` then gives a line
+#                for each file too
+# make dist      builds dist/ anew from proofs: what is used where there is no prover
+# make vectors   writes the stored problems and replies of crates/vectors anew
+# make gate      proves every crate from nothing, tries the must-fail edits, runs the programs
+# make clean     removes what was built, and keeps what was proved; make distclean removes both
 
 SHELL := bash
 .SHELLFLAGS := -o pipefail -c
@@ -15,9 +18,15 @@ CFLAGS = -std=c11 -D_POSIX_C_SOURCE=200809L -O2 -Wall -Wextra -Werror
 CXXFLAGS = -std=c++17 -O2 -Wall -Wextra -Werror
 SANITIZED = -O1 -g -fsanitize=address,undefined -fno-sanitize-recover=all
 
-LIBRARY = target/staticlib/libharbour.a
+# Without the prover the library is the one in dist/, which a prover built; RT= asks for that where there is one.
+RT := $(shell command -v rt)
+PROVED = target/staticlib/libharbour.a
+LIBRARY = $(if $(RT),$(PROVED),dist/libharbour.a)
+VERSION := $(shell cat VERSION)
+ORIGIN = $(if $(RT),proofs,dist)
+SHARED = target/shared/$(ORIGIN)/libharbour.so.$(VERSION)
 SECOND = target/second/release/second
-EXAMPLE = target/example/harbour
+EXAMPLE = target/example/$(ORIGIN)/harbour
 BENCHED = target/bench
 BENCH = $(BENCHED)/bench
 OUTSIDE = target/outside
@@ -25,7 +34,7 @@ OUTSIDE = target/outside
 SECONDS = 60
 SEED := $(shell date +%s)
 
-.PHONY: run outside bench vectors gate clean
+.PHONY: run install uninstall outside bench dist vectors gate clean distclean given fit needs_rt
 
 run: $(EXAMPLE)
 	@$(EXAMPLE)
@@ -33,12 +42,47 @@ run: $(EXAMPLE)
 # Every crate that is no program; rt goes through them all and proves only what has changed.
 PROGRAMS := $(patsubst %/src/main.rt,%,$(wildcard crates/*/src/main.rt))
 CRATES := $(filter-out $(PROGRAMS),$(wildcard crates/*))
-PROVED := crates.txt $(shell find $(CRATES) -name '*.rt' -o -name '*.antt')
 
-$(LIBRARY): $(PROVED)
+$(PROVED): crates.txt $(shell find $(CRATES) -name '*.rt' -o -name '*.antt') | needs_rt
 	@echo 'proving the library: some minutes the first time'
 	@mkdir -p target
 	@rt staticlib harbour 2>&1 | tee target/harbour.log | grep --line-buffered '^rt:' || { cat target/harbour.log; exit 1; }
+
+needs_rt:
+	@$(if $(RT),:,echo 'this needs rt, the command of the Rattle toolchain' >&2; exit 1)
+
+dist/libharbour.a: | given
+
+given:
+	@bash package/given.sh
+
+# The linker would only say that the archive has a wrong format.
+fit:
+	@case "$$($(CC) -dumpmachine 2> /dev/null)" in \
+	x86_64*linux* | '') ;; \
+	*) echo "the library is built for x86-64 Linux, and $(CC) is not: CC=x86_64-linux-gnu-gcc names such a compiler" >&2; exit 1 ;; \
+	esac
+
+dist: $(PROVED)
+	@bash package/dist.sh $(PROVED)
+
+# Nothing runs when it is loaded, and only harbour_* can be seen.
+$(SHARED): $(LIBRARY) package/harbour.map | fit
+	@mkdir -p $(@D)
+	@$(CC) -shared -nostartfiles $(LDFLAGS) -Wl,-soname,libharbour.so.$(firstword $(subst ., ,$(VERSION))) -Wl,-z,defs \
+	    -Wl,--version-script=package/harbour.map -o $@ -Wl,--whole-archive $(LIBRARY) -Wl,--no-whole-archive
+
+PREFIX = /usr/local
+INCLUDEDIR = $(PREFIX)/include
+LIBDIR = $(PREFIX)/lib
+DESTDIR =
+INSTALLED = PREFIX=$(abspath $(PREFIX)) INCLUDEDIR=$(abspath $(INCLUDEDIR)) LIBDIR=$(abspath $(LIBDIR)) DESTDIR=$(DESTDIR)
+
+install: $(LIBRARY) $(SHARED)
+	@$(INSTALLED) bash package/install.sh $^
+
+uninstall:
+	@$(INSTALLED) bash package/uninstall.sh
 
 # One program of the C files among what it is made from, of what is compiled already, and the library.
 define compiled
@@ -46,10 +90,15 @@ define compiled
 @$(CC) $(CFLAGS) $(INCLUDED) -o $@ $(filter %.c %.o %.a,$^)
 endef
 
+define compiled_as_cpp
+@mkdir -p $(@D)
+@$(CXX) $(CXXFLAGS) $(INCLUDED) -o $@ -x c++ $(filter %.cpp %.c,$^) -x none $(filter %.a,$^)
+endef
+
 INCLUDED = -Iinclude -Ic
 HEADERS := include/harbour.h $(wildcard c/*.h)
 
-$(EXAMPLE): $(wildcard example/*.[ch] c/*.c) $(HEADERS) $(LIBRARY)
+$(EXAMPLE): $(wildcard example/*.[ch] c/*.c) $(HEADERS) $(LIBRARY) | fit
 	$(compiled)
 
 # The plain C is built by both compilers for one machine; each build ends its names in its compiler's.
@@ -73,35 +122,42 @@ $(BENCHED)/clang/%.o: bench/%.c bench/plain.h $(HEADERS)
 # Aligned functions: where the plain search falls in memory should not decide how fast it is.
 $(BENCH): CFLAGS += -O3 -falign-functions=64 $(if $(filter clang,$(COMPILERS)),-DWITH_CLANG)
 $(BENCH): $(filter-out $(PLAIN:%=bench/%.c),$(wildcard bench/*.[ch])) $(wildcard c/*.c) $(HEADERS) $(LIBRARY) \
-    $(foreach by,$(COMPILERS),$(PLAIN:%=$(BENCHED)/$(by)/%.o))
+    $(foreach by,$(COMPILERS),$(PLAIN:%=$(BENCHED)/$(by)/%.o)) | fit
 	$(compiled)
 
 $(SECOND): $(shell find outside/second -name '*.rs' -o -name 'Cargo.*')
 	@cargo build --quiet --offline --release --manifest-path outside/second/Cargo.toml --target-dir target/second
 
-# The calls' files are compiled twice, as C and as C++.
+# The guards' and the calls' files are compiled twice, as C and as C++; the guards have no library behind them.
 LENT := $(wildcard outside/lent/*.[ch])
 CALLS := $(wildcard outside/calls/*.[ch])
-CHECKED = $(OUTSIDE)/calls_c $(OUTSIDE)/calls_cpp $(OUTSIDE)/library
+GUARDS := $(wildcard outside/guards/*.[ch] outside/lent/tally.[ch])
+CHECKED = $(addprefix $(OUTSIDE)/,guards_c guards_cpp calls_c calls_cpp library)
 BUILT = $(CHECKED) $(CHECKED:$(OUTSIDE)/%=$(OUTSIDE)/sanitized/%)
 
 $(BUILT): INCLUDED += -Ioutside/lent
+$(BUILT): | fit
 $(OUTSIDE)/sanitized/%: CFLAGS += $(SANITIZED)
 $(OUTSIDE)/sanitized/%: CXXFLAGS += $(SANITIZED)
+
+$(filter %/guards_c,$(BUILT)): $(GUARDS) $(HEADERS)
+	$(compiled)
 
 $(filter %/calls_c,$(BUILT)): $(CALLS) $(LENT) $(HEADERS) $(LIBRARY)
 	$(compiled)
 
+$(filter %/guards_cpp,$(BUILT)): $(GUARDS) $(HEADERS)
+	$(compiled_as_cpp)
+
 $(filter %/calls_cpp,$(BUILT)): outside/calls/calls.cpp $(CALLS) $(LENT) $(HEADERS) $(LIBRARY)
-	@mkdir -p $(@D)
-	@$(CXX) $(CXXFLAGS) $(INCLUDED) -o $@ -x c++ $(filter %.cpp %.c,$^) -x none $(LIBRARY)
+	$(compiled_as_cpp)
 
 $(filter %/library,$(BUILT)): $(wildcard outside/library/*.[ch]) $(LENT) $(HEADERS) $(LIBRARY)
 	$(compiled)
 
-outside: $(SECOND) $(BUILT)
+outside: $(SECOND) $(BUILT) $(SHARED)
 	@cargo test --quiet --offline --release --manifest-path outside/second/Cargo.toml --target-dir target/second > target/second.log 2>&1 || { cat target/second.log; exit 1; }
-	@bash outside/compare.sh $(SEED) $(SECONDS)
+	@bash outside/compare.sh $(SHARED) $(SEED) $(SECONDS)
 
 bench: $(BENCH)
 	@$(BENCH)
@@ -110,8 +166,11 @@ vectors: $(SECOND)
 	$(SECOND) vectors problems > crates/vectors/stdin
 	$(SECOND) vectors replies > crates/vectors/stdout
 
-gate:
+gate: needs_rt
 	@bash .ci/run
 
 clean:
+	rm -rf target/example target/shared $(BENCHED) $(OUTSIDE) target/second target/second.log
+
+distclean:
 	rm -rf target

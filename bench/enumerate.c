@@ -4,7 +4,7 @@
 #include <string.h>
 
 /* Do the slots of boats 0 to i keep the pairs among them that have i as the higher boat? */
-static int keeps(const tables *t, const uint8_t *slots, size_t i)
+static int keeps(const harbour_tables *t, const uint8_t *slots, size_t i)
 {
     const uint64_t *rows = t->rows;
     for (size_t k = 0; k < t->pair_bytes; k += 2) {
@@ -16,7 +16,7 @@ static int keeps(const tables *t, const uint8_t *slots, size_t i)
     return 1;
 }
 
-static uint64_t count_from(const tables *t, uint8_t *slots, size_t i, uint64_t found, uint8_t *plan)
+static uint64_t count_from(const harbour_tables *t, uint8_t *slots, size_t i, uint64_t found, uint8_t *plan)
 {
     if (i == t->n) {
         if (!found)
@@ -29,7 +29,7 @@ static uint64_t count_from(const tables *t, uint8_t *slots, size_t i, uint64_t f
     return found;
 }
 
-uint64_t count_plans(const tables *t, uint8_t *plan)
+uint64_t count_plans(const harbour_tables *t, uint8_t *plan)
 {
     uint8_t slots[HARBOUR_BOATS];
     return count_from(t, slots, 0, 0, plan);

@@ -1,7 +1,7 @@
 /* The examination in plain C: document 01's numbers 2 to 7. Each search gives the first place at fault, or the end. */
 #include "plain.h"
 
-static size_t bad_size(const tables *t)
+static size_t bad_size(const harbour_tables *t)
 {
     size_t i = 0;
     while (i < t->n && t->sizes[i] && t->sizes[i] <= HARBOUR_SLOTS)
@@ -10,7 +10,7 @@ static size_t bad_size(const tables *t)
 }
 
 /* The words that the pairs before it ask for go to words. */
-static size_t bad_pair(const tables *t, size_t *words)
+static size_t bad_pair(const harbour_tables *t, size_t *words)
 {
     size_t k = 0;
     int last = -1;
@@ -26,7 +26,7 @@ static size_t bad_pair(const tables *t, size_t *words)
 }
 
 /* A pair's words are joined, so that only a pair at fault is gone through word by word. */
-static size_t bad_word(const tables *t)
+static size_t bad_word(const harbour_tables *t)
 {
     size_t from = 0;
     for (size_t k = 0; k < t->pair_bytes; k += 2) {
@@ -50,7 +50,7 @@ static harbour_reply found(uint64_t answer, size_t place)
     return (harbour_reply){ answer, place, 0, 0 };
 }
 
-harbour_reply plain_examine(const tables *t)
+harbour_reply plain_examine(const harbour_tables *t)
 {
     size_t place, words = 0;
     if (t->n > HARBOUR_BOATS)

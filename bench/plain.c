@@ -60,7 +60,7 @@ INLINE uint64_t ones(uint64_t x)
 }
 
 /* under: 1 for each pair under its higher boat, 0 under its lower. */
-static void make_index(index_of *x, int under, const tables *of)
+static void make_index(index_of *x, int under, const harbour_tables *of)
 {
     uint16_t next[HARBOUR_BOATS + 1] = { 0 };
     const uint64_t *rows = of->rows;
@@ -264,7 +264,7 @@ INLINE harbour_reply look_ahead(int jumps, index_of *x, uint8_t *plan, allowance
     return solved(held, x->n, plan, given, checks, trials);
 }
 
-INLINE harbour_reply searched(const tables *of, uint64_t method, uint8_t *plan, allowance given)
+INLINE harbour_reply searched(const harbour_tables *of, uint64_t method, uint8_t *plan, allowance given)
 {
     index_of x;
     make_index(&x, method < HARBOUR_FC, of);

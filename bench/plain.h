@@ -9,7 +9,7 @@
 outcome plain_run(const draft *of, uint64_t method, uint64_t checks, uint64_t trials);
 
 /* As the library's examination. */
-harbour_reply plain_examine(const tables *t);
+harbour_reply plain_examine(const harbour_tables *t);
 
 /* plain_run and what the library does before and after it: the tables are examined, the working words cleared twice. */
 outcome plain_call(const draft *of, uint64_t method, uint64_t checks, uint64_t trials);

@@ -20,6 +20,6 @@ uint64_t seed_of(uint64_t number);
 uint64_t draw(uint64_t *seed, uint64_t below);
 
 /* How many plans the tables have; the first goes to plan. */
-uint64_t count_plans(const tables *t, uint8_t *plan);
+uint64_t count_plans(const harbour_tables *t, uint8_t *plan);
 
 #endif

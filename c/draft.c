@@ -3,7 +3,7 @@
 #include <string.h>
 
 void start_draft(draft *in) {
-    in->made = (tables){in->sizes, 0, in->pairs, 0, in->rows, 0};
+    in->made = (harbour_tables){in->sizes, 0, in->pairs, 0, in->rows, 0};
 }
 
 void add_boats(draft *in, size_t boats, size_t size) {
@@ -21,9 +21,7 @@ void add_pair(draft *in, size_t lower, size_t higher, const uint64_t *rows) {
 
 outcome run(const draft *of, uint64_t method, uint64_t checks, uint64_t trials) {
     static uint64_t work[HARBOUR_WORK];
-    const tables *t = &of->made;
     outcome got = {0};
-    got.reply = harbour_run(method, t->sizes, t->n, t->pairs, t->pair_bytes, t->rows, t->row_words, got.plan,
-        HARBOUR_BOATS, work, HARBOUR_WORK, checks, trials);
+    got.reply = harbour_run_t(method, of->made, got.plan, HARBOUR_BOATS, work, HARBOUR_WORK, checks, trials);
     return got;
 }

@@ -3,11 +3,10 @@
 #define DRAFT_H
 
 #include "harbour.h"
-#include "tables.h"
 
 /* Room for the largest harbour, and the tables that have been made in it. */
 typedef struct {
-    tables made;
+    harbour_tables made;
     uint8_t sizes[HARBOUR_BOATS], pairs[2 * HARBOUR_PAIRS];
     uint64_t rows[HARBOUR_PAIRS * HARBOUR_SLOTS];
 } draft;

@@ -9,7 +9,6 @@
 static problem made;
 
 static int plan_tonight(void) {
-    const tables *t = &made.draft.made;
     uint8_t plan[HARBOUR_BOATS];
     make_problem(&made, &tonight);
     puts("THE HARBOUR TONIGHT: ten boats, quays North, South and Inner, 17:00 to 21:00");
@@ -18,15 +17,15 @@ static int plan_tonight(void) {
     int as_promised = show_savings(&made, plan);
     puts("\nTHE PLAN, the first by the order of boats and berths");
     draw_plan(&made, plan);
-    harbour_reply lawful = harbour_lawful(t->sizes, t->n, t->pairs, t->pair_bytes, t->rows, t->row_words, plan, t->n);
-    printf("  Asked again as a given plan, it is %s.\n", lawful.answer == HARBOUR_LAWFUL ? "lawful" : "NOT LAWFUL");
+    harbour_reply lawful = harbour_lawful_t(made.draft.made, plan, made.draft.made.n);
+    printf("  Asked again, as a given plan: %s.\n", harbour_say_lawful(lawful).text);
     return as_promised && lawful.answer == HARBOUR_LAWFUL;
 }
 
 /* Runs a method, says the reply and holds it to the answer that is due. */
 static int answered(uint64_t method, uint64_t checks, uint64_t due) {
     harbour_reply reply = run(&made.draft, method, checks, HARBOUR_AMPLE).reply;
-    say(&made, reply, checks, HARBOUR_AMPLE);
+    say(&made, reply);
     return reply.answer == due;
 }
 

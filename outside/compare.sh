@@ -1,12 +1,13 @@
 #!/usr/bin/env bash
-# outside/compare.sh SEED SECONDS
+# outside/compare.sh SHARED SEED SECONDS
 # All that is compared from outside the proofs; `make outside` builds what it needs and calls it.
 # Its last line says how many comparisons were made and how many differed.
 set -uo pipefail
 cd "$(dirname "$0")/.."
 
-seed=$1
-seconds=$2
+shared=$1
+seed=$2
+seconds=$3
 second=target/second/release/second
 built=target/outside
 checker="valgrind --quiet --error-exitcode=99 --leak-check=full"
@@ -59,6 +60,7 @@ step() {
     "$@" > "$said" 2>&1
     tally $?
     told "$name"
+    grep '^NOT COMPARED' "$said"
 }
 
 stored_made_again() {
@@ -129,12 +131,17 @@ step "the stored vectors, made again" stored_made_again
 step "the library on the stored vectors" replies crates/vectors/stdin crates/vectors/stdout $built/library
 step "  under the sanitizers" replies crates/vectors/stdin crates/vectors/stdout $built/sanitized/library --exact
 for language in c cpp; do
+    step "the header's guards and lines, from $language" $built/guards_$language
+    step "  under the sanitizers" $built/sanitized/guards_$language
     step "every call from $language" $built/calls_$language
     step "  under valgrind" $checker $built/calls_$language --exact
     step "  under the sanitizers" $built/sanitized/calls_$language --exact
 done
 step "the library on every kind, under valgrind" fresh_of_every_kind $checker $built/library --exact
 step "the library on every kind, under the sanitizers" fresh_of_every_kind $built/sanitized/library --exact
+step "dist, and what the proofs build" bash outside/dist.sh
+step "installed: README's programs, by pkg-config alone" bash outside/installed.sh
+step "the Python binding" bash outside/python.sh "$shared"
 fresh_rounds=0
 fresh_for_a_time
 told "the library on fresh seeds of every kind, rounds: $fresh_rounds"

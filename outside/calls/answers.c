@@ -6,7 +6,7 @@
 /* What a case comes to under the five methods, in the order of their numbers. */
 typedef struct {
     const char *name;
-    const tables *given;
+    const harbour_tables *given;
     const uint8_t *plan;
     uint64_t checks[5], trials[5];
 } expected;
@@ -42,7 +42,7 @@ static void decided(void) {
     }
 }
 
-static void allowed(const char *what, const tables *given, uint64_t method, uint64_t checks, uint64_t trials,
+static void allowed(const char *what, const harbour_tables *given, uint64_t method, uint64_t checks, uint64_t trials,
     harbour_reply due, const uint8_t *plan) {
     terms under = ample(method, given);
     under.checks = checks;

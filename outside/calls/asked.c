@@ -2,7 +2,7 @@
 
 #include "tally.h"
 
-terms ample(uint64_t method, const tables *given) {
+terms ample(uint64_t method, const harbour_tables *given) {
     terms made;
     made.method = method;
     made.plan_bytes = given->n;
@@ -38,7 +38,7 @@ static void work_is_cleared(const char *what, const lent_part *lent, int refused
     same(what, "working words that are not 0", left, 0);
 }
 
-void run_is(const char *what, const tables *given, terms under, harbour_reply due, const uint8_t *plan) {
+void run_is(const char *what, const harbour_tables *given, terms under, harbour_reply due, const uint8_t *plan) {
     lent_tables lent = lend_tables(given);
     lent_run run = run_lent(&lent, under);
     reply_is(what, run.reply, due);
@@ -49,9 +49,9 @@ void run_is(const char *what, const tables *given, terms under, harbour_reply du
     take_tables_back(&lent);
 }
 
-void examine_is(const char *what, const tables *given, uint64_t answer, uint64_t place) {
+void examine_is(const char *what, const harbour_tables *given, uint64_t answer, uint64_t place) {
     lent_tables lent = lend_tables(given);
-    tables t = tables_of(&lent);
+    harbour_tables t = tables_of(&lent);
     harbour_reply got = harbour_examine(t.sizes, t.n, t.pairs, t.pair_bytes, t.rows, t.row_words);
     reply_is(what, got, due_reply(answer, place, 0, 0));
     tables_left_alone(what, &lent);
@@ -62,11 +62,11 @@ void examine_is(const char *what, const tables *given, uint64_t answer, uint64_t
 typedef harbour_reply plan_question(const uint8_t *, size_t, const uint8_t *, size_t, const uint64_t *, size_t,
     const uint8_t *, size_t);
 
-static void plan_reply_is(const char *what, plan_question *asked, const tables *given, const uint8_t *plan,
+static void plan_reply_is(const char *what, plan_question *asked, const harbour_tables *given, const uint8_t *plan,
     size_t bytes, harbour_reply due) {
     lent_tables lent = lend_tables(given);
     lent_part plan_memory = lend_bytes(plan, bytes);
-    tables t = tables_of(&lent);
+    harbour_tables t = tables_of(&lent);
     harbour_reply got = asked(t.sizes, t.n, t.pairs, t.pair_bytes, t.rows, t.row_words, bytes_of(&plan_memory), bytes);
     reply_is(what, got, due);
     holds(what, "the given plan changed", left_alone_from(&plan_memory, 0));
@@ -75,20 +75,20 @@ static void plan_reply_is(const char *what, plan_question *asked, const tables *
     take_tables_back(&lent);
 }
 
-void lawful_is(const char *what, const tables *given, const uint8_t *plan, size_t bytes,
+void lawful_is(const char *what, const harbour_tables *given, const uint8_t *plan, size_t bytes,
     uint64_t answer, uint64_t place) {
     plan_reply_is(what, harbour_lawful, given, plan, bytes, due_reply(answer, place, 0, 0));
 }
 
-void broken_is(const char *what, const tables *given, const uint8_t *plan, size_t bytes,
+void broken_is(const char *what, const harbour_tables *given, const uint8_t *plan, size_t bytes,
     uint64_t answer, uint64_t place) {
     plan_reply_is(what, harbour_broken, given, plan, bytes, due_reply(answer, place, 0, 0));
 }
 
-void rows_are(const char *what, const tables *given, uint64_t lower, uint64_t higher,
+void rows_are(const char *what, const harbour_tables *given, uint64_t lower, uint64_t higher,
     uint64_t start, uint64_t length) {
     lent_tables lent = lend_tables(given);
-    tables t = tables_of(&lent);
+    harbour_tables t = tables_of(&lent);
     harbour_part got = harbour_rows(t.sizes, t.n, t.pairs, t.pair_bytes, t.rows, t.row_words, lower, higher);
     same(what, "start", got.start, start);
     same(what, "length", got.length, length);
@@ -96,7 +96,7 @@ void rows_are(const char *what, const tables *given, uint64_t lower, uint64_t hi
     take_tables_back(&lent);
 }
 
-void refused_by_all(const char *what, const tables *given, uint64_t answer, uint64_t place) {
+void refused_by_all(const char *what, const harbour_tables *given, uint64_t answer, uint64_t place) {
     static const uint8_t plan[512] = {0};
     for (uint64_t method = HARBOUR_BT; method <= HARBOUR_FC_CBJ; method++) {
         run_is(what, given, ample(method, given), due_reply(answer, place, 0, 0), NULL);

@@ -11,6 +11,7 @@ int main(int words, char **word) {
     refusals();
     several_faults();
     nothing_lent();
+    guarded();
 #ifdef __cplusplus
     with_containers();
 #endif

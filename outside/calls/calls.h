@@ -17,6 +17,9 @@ void several_faults(void);
 /* NULL with length 0 for each part. */
 void nothing_lent(void);
 
+/* The functions that end in _t, where something is owed and where nothing is; outside/guards has every slip. */
+void guarded(void);
+
 #ifdef __cplusplus
 /* The library beside the containers of C++. */
 void with_containers(void);

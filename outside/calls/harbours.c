@@ -2,8 +2,6 @@
 
 #include <string.h>
 
-#include "harbour.h"
-
 /* Rows by which two boats of two slots each never take the same one, as often as a case needs. */
 static const uint64_t apart[] = {2, 1, 2, 1, 2, 1};
 
@@ -12,21 +10,21 @@ static const uint8_t pair_01[] = {0, 1}, pair_02[] = {0, 2};
 static const uint8_t pairs_of_three[] = {0, 1, 0, 2, 1, 2}, pairs_of_last_three[] = {1, 2, 1, 3, 2, 3};
 static const uint64_t rows_e[] = {0, 1}, rows_f[] = {0, 0};
 
-const tables case_a = {NULL, 0, NULL, 0, NULL, 0};
-const tables case_b = {one, 1, NULL, 0, NULL, 0};
-const tables case_c = {two, 2, pair_01, 2, apart, 2};
-const tables case_d = {two, 3, pairs_of_three, 6, apart, 6};
-const tables case_e = {two_two_one, 3, pair_02, 2, rows_e, 2};
-const tables case_f = {two_two_one, 3, pair_02, 2, rows_f, 2};
-const tables case_g = {two, 4, pairs_of_last_three, 6, apart, 6};
+const harbour_tables case_a = {NULL, 0, NULL, 0, NULL, 0};
+const harbour_tables case_b = {one, 1, NULL, 0, NULL, 0};
+const harbour_tables case_c = {two, 2, pair_01, 2, apart, 2};
+const harbour_tables case_d = {two, 3, pairs_of_three, 6, apart, 6};
+const harbour_tables case_e = {two_two_one, 3, pair_02, 2, rows_e, 2};
+const harbour_tables case_f = {two_two_one, 3, pair_02, 2, rows_f, 2};
+const harbour_tables case_g = {two, 4, pairs_of_last_three, 6, apart, 6};
 
 static const uint8_t five_sizes[] = {3, 2, 2, 1, 2}, five_pairs[] = {0, 2, 1, 2, 1, 4, 3, 4};
 static const uint64_t five_rows[] = {2, 1, 2, 1, 2, 3, 2, 1};
-const tables five_boats = {five_sizes, 5, five_pairs, 8, five_rows, 8};
+const harbour_tables five_boats = {five_sizes, 5, five_pairs, 8, five_rows, 8};
 
 enum { SOME_MORE = 512 };
 
-tables crowd(size_t boats, size_t pair_bytes, size_t row_words) {
+harbour_tables crowd(size_t boats, size_t pair_bytes, size_t row_words) {
     static uint8_t sizes[SOME_MORE], pairs[2 * HARBOUR_PAIRS + SOME_MORE];
     static uint64_t rows[HARBOUR_PAIRS + SOME_MORE];
     size_t pair = 0;
@@ -39,13 +37,13 @@ tables crowd(size_t boats, size_t pair_bytes, size_t row_words) {
             pair += 1;
         }
     }
-    tables made = {sizes, boats, pairs, pair_bytes, rows, row_words};
+    harbour_tables made = {sizes, boats, pairs, pair_bytes, rows, row_words};
     return made;
 }
 
-tables lone_boats(size_t boats, uint8_t size) {
+harbour_tables lone_boats(size_t boats, uint8_t size) {
     static uint8_t sizes[SOME_MORE];
     memset(sizes, size, sizeof sizes);
-    tables made = {sizes, boats, NULL, 0, NULL, 0};
+    harbour_tables made = {sizes, boats, NULL, 0, NULL, 0};
     return made;
 }

@@ -64,7 +64,7 @@ static void constants(void) {
         {"HARBOUR_REFUSED_PLAN_MEMORY", HARBOUR_REFUSED_PLAN_MEMORY, 108},
         {"HARBOUR_REFUSED_WORK_MEMORY", HARBOUR_REFUSED_WORK_MEMORY, 109},
         {"HARBOUR_REFUSED_GIVEN_LENGTH", HARBOUR_REFUSED_GIVEN_LENGTH, 110},
-        {"HARBOUR_REFUSED_GIVEN_SLOT", HARBOUR_REFUSED_GIVEN_SLOT, 111},
+        {"HARBOUR_REFUSED_GIVEN_SLOT", HARBOUR_REFUSED_GIVEN_SLOT, 111}, {"HARBOUR_OWED", HARBOUR_OWED, 190},
     };
     for (size_t at = 0; at < LENGTH(list); at++) {
         same(list[at].name, "value", list[at].value, list[at].due);

@@ -2,7 +2,7 @@
 #include "calls.h"
 #include "harbours.h"
 
-static void solved_by_all(const char *what, const tables *given, uint64_t checks) {
+static void solved_by_all(const char *what, const harbour_tables *given, uint64_t checks) {
     static const uint8_t first[HARBOUR_BOATS] = {0};
     for (uint64_t method = HARBOUR_BT; method <= HARBOUR_FC_CBJ; method++) {
         run_is(what, given, ample(method, given), due_reply(HARBOUR_SOLVED, 0, checks, given->n), first);
@@ -23,20 +23,20 @@ static void methods(void) {
 
 static void boats(void) {
     const size_t too_many[] = {65, 66, 128, 255, 256, 257, 320};
-    tables most = lone_boats(64, 1);
+    harbour_tables most = lone_boats(64, 1);
     solved_by_all("64 boats", &most, 0);
     for (size_t at = 0; at < LENGTH(too_many); at++) {
-        tables given = lone_boats(too_many[at], 1);
+        harbour_tables given = lone_boats(too_many[at], 1);
         refused_by_all("too many boats", &given, HARBOUR_REFUSED_BOATS, 0);
     }
 }
 
 static void sizes(void) {
     const uint8_t wrong[] = {0, 65, 128, 255};
-    tables most = lone_boats(64, 64);
+    harbour_tables most = lone_boats(64, 64);
     solved_by_all("64 boats of 64 slots", &most, 0);
     for (size_t at = 0; at < LENGTH(wrong); at++) {
-        tables given = lone_boats(3, wrong[at]);
+        harbour_tables given = lone_boats(3, wrong[at]);
         refused_by_all("every size wrong", &given, HARBOUR_REFUSED_SIZE, 0);
         const uint8_t last[] = {1, 64, wrong[at]}, middle_too[] = {64, 0, wrong[at]};
         given.sizes = last;
@@ -48,10 +48,10 @@ static void sizes(void) {
 
 static void pair_bytes(void) {
     const size_t wrong[] = {1, 3, 4031, 4033, 4034, 4036};
-    tables most = crowd(64, 2 * HARBOUR_PAIRS, HARBOUR_PAIRS);
+    harbour_tables most = crowd(64, 2 * HARBOUR_PAIRS, HARBOUR_PAIRS);
     solved_by_all("2,016 pairs", &most, HARBOUR_PAIRS);
     for (size_t at = 0; at < LENGTH(wrong); at++) {
-        tables given = crowd(64, wrong[at], HARBOUR_PAIRS);
+        harbour_tables given = crowd(64, wrong[at], HARBOUR_PAIRS);
         refused_by_all("pair bytes", &given, HARBOUR_REFUSED_PAIR_BYTES, 0);
     }
 }
@@ -62,7 +62,7 @@ static void pairs(void) {
         {0, 1, 255, 255, 0, 1}, {0, 1, 0, 1, 0, 1}, {0, 2, 0, 1, 0, 1}, {1, 2, 0, 2, 0, 1}};
     const uint8_t wrong_first[][2] = {{0, 0}, {1, 0}, {0, 3}, {3, 0}, {3, 4}, {0, 64}, {64, 65}, {0, 255}, {255, 255}};
     const uint64_t rows[] = {1, 1, 1};
-    tables given = lone_boats(3, 1);
+    harbour_tables given = lone_boats(3, 1);
     given.rows = rows;
     given.row_words = 3;
     given.pair_bytes = 6;
@@ -79,13 +79,13 @@ static void pairs(void) {
 
 static void row_words(void) {
     const uint64_t rows[] = {1, 1, 1, 1, 1, 1, 1, 1, 1, 1};
-    tables given = five_boats;
+    harbour_tables given = five_boats;
     given.rows = rows;
     for (given.row_words = 0; given.row_words < LENGTH(rows); given.row_words++) {
         if (given.row_words == five_boats.row_words) continue;
         refused_by_all("row words", &given, HARBOUR_REFUSED_ROW_WORDS, 0);
     }
-    tables no_pair = case_b;
+    harbour_tables no_pair = case_b;
     no_pair.rows = rows;
     no_pair.row_words = 1;
     refused_by_all("a row of no pair", &no_pair, HARBOUR_REFUSED_ROW_WORDS, 0);
@@ -94,7 +94,7 @@ static void row_words(void) {
 /* A bit for the slot past the higher boat's last, then for the highest slot there is. */
 static void row_bits(void) {
     uint64_t rows[8];
-    tables given = five_boats;
+    harbour_tables given = five_boats;
     given.rows = rows;
     for (size_t word = 0; word < LENGTH(rows); word++) {
         for (size_t at = 0; at < LENGTH(rows); at++) rows[at] = at > word ? UINT64_MAX : five_boats.rows[at];
@@ -105,7 +105,7 @@ static void row_bits(void) {
     }
     const uint8_t two_sizes[] = {1, 64}, smaller[] = {1, 63}, pair[] = {0, 1};
     const uint64_t full[] = {UINT64_MAX};
-    tables widest = {two_sizes, 2, pair, 2, full, 1};
+    harbour_tables widest = {two_sizes, 2, pair, 2, full, 1};
     examine_is("a row of 64 bits", &widest, HARBOUR_FINE, 0);
     widest.sizes = smaller;
     refused_by_all("one bit of 64 too many", &widest, HARBOUR_REFUSED_ROW_BIT, 0);

@@ -8,7 +8,7 @@
 typedef struct {
     uint8_t sizes[65], pairs[9];
     uint64_t rows[8];
-    tables given;
+    harbour_tables given;
 } spoiled;
 
 enum { LAST_OF_TABLES = 7, LAST_OF_RUN = 9, GIVEN_LENGTH = 10, GIVEN_SLOT = 11 };

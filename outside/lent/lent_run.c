@@ -3,12 +3,11 @@
 #include "tally.h"
 
 lent_run run_lent(const lent_tables *lent, terms under) {
-    tables t = tables_of(lent);
     lent_run made;
     made.plan = lend_bytes(NULL, under.plan_bytes);
     made.work = lend_words(NULL, under.work_words);
-    made.reply = harbour_run(under.method, t.sizes, t.n, t.pairs, t.pair_bytes, t.rows, t.row_words,
-        bytes_of(&made.plan), under.plan_bytes, words_of(&made.work), under.work_words, under.checks, under.trials);
+    made.reply = harbour_run_t(under.method, tables_of(lent), bytes_of(&made.plan), under.plan_bytes,
+        words_of(&made.work), under.work_words, under.checks, under.trials);
     return made;
 }
 

@@ -2,7 +2,7 @@
 
 #include "tally.h"
 
-lent_tables lend_tables(const tables *given) {
+lent_tables lend_tables(const harbour_tables *given) {
     lent_tables made;
     made.sizes = lend_bytes(given->sizes, given->n);
     made.pairs = lend_bytes(given->pairs, given->pair_bytes);
@@ -10,8 +10,8 @@ lent_tables lend_tables(const tables *given) {
     return made;
 }
 
-tables tables_of(const lent_tables *lent) {
-    tables seen;
+harbour_tables tables_of(const lent_tables *lent) {
+    harbour_tables seen;
     seen.sizes = bytes_of(&lent->sizes);
     seen.n = lent->sizes.length;
     seen.pairs = bytes_of(&lent->pairs);

@@ -3,16 +3,16 @@
 #define LENT_TABLES_H
 
 #include "lent.h"
-#include "tables.h"
+#include "harbour.h"
 
 typedef struct {
     lent_part sizes, pairs, rows;
 } lent_tables;
 
-lent_tables lend_tables(const tables *given);
+lent_tables lend_tables(const harbour_tables *given);
 
 /* The tables as a call is given them: the lent parts. */
-tables tables_of(const lent_tables *lent);
+harbour_tables tables_of(const lent_tables *lent);
 
 /* Three comparisons: no table is changed by a call. */
 void tables_left_alone(const char *what, const lent_tables *lent);

@@ -12,7 +12,7 @@
 #include "text.h"
 
 static lent_tables read_tables(char *line) {
-    tables read;
+    harbour_tables read;
     uint8_t *sizes = hex_bytes(field(&line), &read.n);
     uint8_t *pairs = hex_bytes(field(&line), &read.pair_bytes);
     uint64_t *rows = hex_words(field(&line), &read.row_words);
@@ -45,7 +45,7 @@ static void answer(char *line, lent_tables *lent) {
 
 int main(int words, char **word) {
     lend_as_told(words, word);
-    const tables nothing = {NULL, 0, NULL, 0, NULL, 0};
+    const harbour_tables nothing = {NULL, 0, NULL, 0, NULL, 0};
     lent_tables lent = lend_tables(&nothing);
     char *line = NULL;
     size_t room = 0;

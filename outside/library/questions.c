@@ -15,9 +15,8 @@ static void write_reply(const char *what, harbour_reply reply) {
 }
 
 void ask_examine(const lent_tables *lent) {
-    tables t = tables_of(lent);
     putchar('t');
-    write_reply("examine", harbour_examine(t.sizes, t.n, t.pairs, t.pair_bytes, t.rows, t.row_words));
+    write_reply("examine", harbour_examine_t(tables_of(lent)));
     putchar('\n');
     tables_left_alone("examine", lent);
 }
@@ -26,12 +25,9 @@ void ask_plan(const lent_tables *lent, char *line) {
     size_t bytes;
     uint8_t *read = hex_bytes(field(&line), &bytes);
     lent_part given = lend_bytes(read, bytes);
-    tables t = tables_of(lent);
     putchar('p');
-    write_reply("lawful", harbour_lawful(t.sizes, t.n, t.pairs, t.pair_bytes, t.rows, t.row_words,
-        bytes_of(&given), bytes));
-    write_reply("broken", harbour_broken(t.sizes, t.n, t.pairs, t.pair_bytes, t.rows, t.row_words,
-        bytes_of(&given), bytes));
+    write_reply("lawful", harbour_lawful_t(tables_of(lent), bytes_of(&given), bytes));
+    write_reply("broken", harbour_broken_t(tables_of(lent), bytes_of(&given), bytes));
     putchar('\n');
     holds("lawful and broken", "the given plan changed", left_alone_from(&given, 0));
     tables_left_alone("lawful and broken", lent);
@@ -41,8 +37,8 @@ void ask_plan(const lent_tables *lent, char *line) {
 
 void ask_rows(const lent_tables *lent, char *line) {
     uint64_t lower = decimal(field(&line)), higher = decimal(field(&line));
-    tables t = tables_of(lent);
-    harbour_part part = harbour_rows(t.sizes, t.n, t.pairs, t.pair_bytes, t.rows, t.row_words, lower, higher);
+    harbour_tables t = tables_of(lent);
+    harbour_part part = harbour_rows_t(t, lower, higher);
     int inside = part.start <= t.row_words && part.length <= t.row_words - part.start;
     printf("s %" PRIu64 " %" PRIu64 " ", part.start, part.start + part.length);
     holds("rows", "the part is not inside the rows", inside);

@@ -1,0 +1,221 @@
+"""Oonjaluvai, the harbour's planner: its C library, libharbour, from Python.
+
+A harbour is sizes (how many slots each boat has), pairs of boats, lower boat first and rising, and
+for each pair one row for each slot of the lower boat: bit b of a row is set where the higher boat
+may take its slot b beside it. Boats, slots, pairs and rows count from 0.
+
+    >>> tables = Tables((2, 2), [(0, 1)], [[0b10, 0b01]])
+    >>> tables.run()
+    Decided(plan=(0, 1), checks=2, trials=2)
+"""
+
+import ctypes
+import operator
+import os
+from itertools import chain
+from typing import Any, Iterable, NamedTuple, Optional, Sequence, SupportsIndex, Tuple
+
+__version__ = "1.0.0"  # that of the library; only another first number means another library
+
+__all__ = ["BT", "CBJ", "BM", "FC", "FC_CBJ", "AMPLE", "Tables", "Decided", "Refused", "Undecided"]
+
+BT, CBJ, BM, FC, FC_CBJ = 1, 2, 3, 4, 5
+AMPLE = 2**64 - 1
+
+_BYTE = 255
+_WORK = 8192
+_FINE = _LAWFUL = _UNBROKEN = _SOLVED = 0
+_UNLAWFUL = _BROKEN = _NO_PLAN = 1
+_ALLOWANCES = {2: "checks", 3: "trials"}  # by the answer that says which one ran out
+_REFUSED = 100  # what the library adds to a refusal's number
+_ROW_WORDS, _ROW_BIT = 6, 7
+_CAUSES = {
+    1: "no method has this number",
+    2: "there are more than 64 boats",
+    3: "boat {} has no slot, or more than 64",
+    4: "there are more than 2,016 pairs",
+    5: "pair {} is not lower boat then higher, names no boat, or is not above the pair before it",
+    _ROW_WORDS: "the rows are not, for each pair, one for each slot of its lower boat",
+    _ROW_BIT: "row {}, counted over all pairs, has a bit for a slot that the higher boat does not have",
+    8: "the plan's memory has fewer bytes than there are boats",
+    9: "there are fewer than 8,192 working words",
+    10: "the given plan has not one slot for each boat",
+    11: "the given plan has a slot that boat {} does not have",
+}
+
+
+class Refused(ValueError):
+    """What the library refuses: number 1 to 11, and the place of it, 0 where none is named."""
+
+    def __init__(self, number: int, place: int) -> None:
+        super().__init__(number, place)  # not the message: an exception is copied and pickled by its arguments
+        self.number, self.place = number, place
+
+    def __str__(self) -> str:
+        return f"refused, number {self.number}: {_CAUSES[self.number].format(self.place)}"
+
+
+class Undecided(Exception):
+    """An allowance, of "checks" or of "trials", ran out: this says nothing about plans."""
+
+    def __init__(self, allowance: str, checks: int, trials: int) -> None:
+        super().__init__(allowance, checks, trials)
+        self.allowance, self.checks, self.trials = allowance, checks, trials
+
+    def __str__(self) -> str:
+        return (f"undecided: the allowance of {self.allowance} ran out (checks: {self.checks}, trials: {self.trials});"
+                " a plan may exist or not, and a larger allowance may decide")
+
+
+class Decided(NamedTuple):
+    """A run's answer. plan is None exactly where no plan exists; that of a harbour without boats is ()."""
+
+    plan: Optional[Tuple[int, ...]]
+    checks: int
+    trials: int
+
+
+class _Reply(ctypes.Structure):
+    _fields_ = [(name, ctypes.c_uint64) for name in ("answer", "place", "checks", "trials")]
+
+
+class _Part(ctypes.Structure):
+    _fields_ = [(name, ctypes.c_uint64) for name in ("start", "length")]
+
+
+_Work = ctypes.c_uint64 * _WORK
+_LENT_BYTES = (ctypes.POINTER(ctypes.c_uint8), ctypes.c_size_t)
+_LENT_WORDS = (ctypes.POINTER(ctypes.c_uint64), ctypes.c_size_t)
+_TABLES = _LENT_BYTES + _LENT_BYTES + _LENT_WORDS
+_TWO_NUMBERS = (ctypes.c_uint64, ctypes.c_uint64)
+_FUNCTIONS = {
+    "harbour_run": (_Reply, (ctypes.c_uint64,) + _TABLES + _LENT_BYTES + _LENT_WORDS + _TWO_NUMBERS),
+    "harbour_examine": (_Reply, _TABLES),
+    "harbour_lawful": (_Reply, _TABLES + _LENT_BYTES),
+    "harbour_broken": (_Reply, _TABLES + _LENT_BYTES),
+    "harbour_rows": (_Part, _TABLES + _TWO_NUMBERS),
+}
+
+
+def _load() -> ctypes.CDLL:
+    """The library that HARBOUR_LIBRARY names, or else the loader's."""
+    path = os.environ.get("HARBOUR_LIBRARY")
+    own = "libharbour.so." + __version__.split(".")[0]
+    wanted = os.path.abspath(path) if path else own  # the loader would not take a bare name for a path
+    try:
+        library = ctypes.CDLL(wanted)
+        for name, (reply, given) in _FUNCTIONS.items():
+            function = getattr(library, name)
+            # without restype ctypes lends no room for the reply, and the library would write over other memory
+            function.restype, function.argtypes = reply, given
+    except (OSError, AttributeError) as error:
+        raise ImportError(f"the harbour's library was looked for as {wanted} and could not be loaded ({error}):"
+                          " `make install` installs it, or HARBOUR_LIBRARY names its path") from error
+    return library
+
+
+_library = _load()
+
+
+def _number(value: SupportsIndex, most: int, what: str, *where: int) -> int:
+    """The value as a number from 0 to most: ctypes would cut a larger one without a word."""
+    if isinstance(value, bool):
+        raise TypeError(f"{what.format(*where)} is {value}, which is no number")
+    number = operator.index(value)
+    if not 0 <= number <= most:
+        raise ValueError(f"{what.format(*where)} is not a number from 0 to {most}")
+    return number
+
+
+def _bytes_of(values: Iterable[SupportsIndex], what: str) -> Tuple[int, ...]:
+    return tuple(_number(value, _BYTE, what, boat) for boat, value in enumerate(values))
+
+
+def _pair(at: int, pair: Iterable[SupportsIndex]) -> Tuple[int, int]:
+    boats = tuple(pair)
+    if len(boats) != 2:
+        raise ValueError(f"pair {at} is not two boats")
+    lower, higher = boats
+    return (_number(lower, _BYTE, "the lower boat of pair {}", at),
+            _number(higher, _BYTE, "the higher boat of pair {}", at))
+
+
+def _pair_rows(at: int, rows: Iterable[SupportsIndex]) -> Tuple[int, ...]:
+    return tuple(_number(row, AMPLE, "row {} of pair {}", slot, at) for slot, row in enumerate(rows))
+
+
+def _rows_fit(sizes: Sequence[int], pairs: Sequence[Tuple[int, int]], rows: Sequence[Sequence[int]]) -> bool:
+    """Pair by pair: a row too many here and one too few there give a total that the library takes."""
+    return [len(each) for each in rows] == [sizes[lower] for lower, _ in pairs]
+
+
+def _lent_bytes(values: Iterable[int]) -> Tuple[Any, int]:
+    """The values in memory of their own, and their length; a bytes object of one byte is shared by all who have it."""
+    held = bytes(values)
+    return (ctypes.c_uint8 * len(held)).from_buffer_copy(held), len(held)
+
+
+def _lent_words(values: Iterable[int]) -> Tuple[Any, int]:
+    held = tuple(values)
+    return (ctypes.c_uint64 * len(held))(*held), len(held)
+
+
+def _answer(reply: _Reply, *known: int) -> int:
+    """The reply's answer, one of the known; a refusal is raised, and so is what nobody knows."""
+    if reply.answer in known:
+        return reply.answer
+    if reply.answer - _REFUSED in _CAUSES:
+        raise Refused(reply.answer - _REFUSED, reply.place)
+    raise RuntimeError(f"the harbour's library gave an answer that is not known: {reply.answer}")
+
+
+class Tables:
+    """A harbour's tables, copied and examined: whatever is refused is raised here, so each object is fine tables."""
+
+    __slots__ = ("_parts",)
+
+    def __init__(self, sizes: Iterable[SupportsIndex], pairs: Iterable[Iterable[SupportsIndex]] = (),
+                 rows: Iterable[Iterable[SupportsIndex]] = ()) -> None:
+        own_sizes = _bytes_of(sizes, "the size of boat {}")
+        own_pairs = [_pair(at, pair) for at, pair in enumerate(pairs)]
+        own_rows = [_pair_rows(at, each) for at, each in enumerate(rows)]
+        parts = _lent_bytes(own_sizes) + _lent_bytes(chain(*own_pairs)) + _lent_words(chain(*own_rows))
+        reply = _library.harbour_examine(*parts)
+        if reply.answer in (_FINE, _REFUSED + _ROW_BIT) and not _rows_fit(own_sizes, own_pairs, own_rows):
+            raise Refused(_ROW_WORDS, 0)
+        _answer(reply, _FINE)
+        self._parts = parts
+
+    def run(self, method: SupportsIndex = FC_CBJ, checks: SupportsIndex = AMPLE,
+            trials: SupportsIndex = AMPLE) -> Decided:
+        """The first lawful plan, or that none exists; Undecided is raised where an allowance ran out."""
+        by = _number(method, AMPLE, "the method")
+        allowed = _number(checks, AMPLE, "the allowance of checks"), _number(trials, AMPLE, "the allowance of trials")
+        boats = self._parts[1]
+        plan = (ctypes.c_uint8 * boats)()
+        work = _Work()  # not kept from call to call: two threads may run at once, and each needs its own
+        reply = _library.harbour_run(by, *self._parts, plan, boats, work, _WORK, *allowed)
+        answer = _answer(reply, _SOLVED, _NO_PLAN, *_ALLOWANCES)
+        if answer in _ALLOWANCES:
+            raise Undecided(_ALLOWANCES[answer], reply.checks, reply.trials)
+        return Decided(tuple(plan) if answer == _SOLVED else None, reply.checks, reply.trials)
+
+    def is_lawful(self, plan: Iterable[SupportsIndex]) -> bool:
+        """Does every listed pair allow the plan?"""
+        given = _lent_bytes(_bytes_of(plan, "the slot of boat {}"))
+        return _answer(_library.harbour_lawful(*self._parts, *given), _LAWFUL, _UNLAWFUL) == _LAWFUL
+
+    def first_broken(self, plan: Iterable[SupportsIndex]) -> Optional[int]:
+        """The index of the lowest pair that the plan breaks, or None where it breaks none."""
+        given = _lent_bytes(_bytes_of(plan, "the slot of boat {}"))
+        reply = _library.harbour_broken(*self._parts, *given)
+        return reply.place if _answer(reply, _UNBROKEN, _BROKEN) == _BROKEN else None
+
+    def rows_of(self, lower: SupportsIndex, higher: SupportsIndex) -> Tuple[int, ...]:
+        """The rows of two boats' pair, none where it is not listed."""
+        boats = _number(lower, AMPLE, "the lower boat"), _number(higher, AMPLE, "the higher boat")
+        part = _library.harbour_rows(*self._parts, *boats)
+        shown = tuple(self._parts[4][part.start:part.start + part.length])
+        if len(shown) != part.length:
+            raise RuntimeError("the harbour's library showed rows that are not there")
+        return shown

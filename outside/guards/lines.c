@@ -1,0 +1,65 @@
+#include <string.h>
+
+#include "guards.h"
+#include "harbour.h"
+#include "tally.h"
+
+typedef harbour_line say(harbour_reply reply);
+
+static void line_is(say *says, uint64_t answer, uint64_t place, const char *due) {
+    const harbour_reply reply = {answer, place, 12, 345};
+    const harbour_line got = says(reply);
+    holds(due, got.text, strcmp(got.text, due) == 0);
+}
+
+static void answers(void) {
+    line_is(harbour_say_run, 0, 0, "solved after 12 checks and 345 trials: the plan is written");
+    line_is(harbour_say_run, 1, 0,
+        "no plan after 12 checks and 345 trials: none exists, and larger allowances change nothing");
+    line_is(harbour_say_run, 2, 0,
+        "undecided after 12 checks and 345 trials: the checks allowed are used up, and a plan may exist or not");
+    line_is(harbour_say_run, 3, 0,
+        "undecided after 12 checks and 345 trials: the trials allowed are used up, and a plan may exist or not");
+    line_is(harbour_say_examine, 0, 0, "the tables are fine");
+    line_is(harbour_say_lawful, 0, 0, "the plan is lawful");
+    line_is(harbour_say_lawful, 1, 0, "the plan is not lawful: it breaks a pair");
+    line_is(harbour_say_broken, 0, 0, "the plan breaks no pair");
+    line_is(harbour_say_broken, 1, 0, "the plan breaks pair 0, and no lower one");
+    line_is(harbour_say_broken, 1, 2015, "the plan breaks pair 2015, and no lower one");
+}
+
+static const struct {
+    uint64_t answer, place;
+    const char *due;
+} refused[] = {
+    {101, 0, "refused, number 1: there is no such method"},
+    {102, 0, "refused, number 2: there are more than 64 boats"},
+    {103, 7, "refused, number 3 at boat 7: it has no slot, or more than 64"},
+    {104, 0, "refused, number 4: the pairs have an odd number of bytes, or more than 4032"},
+    {105, 8, "refused, number 5 at pair 8: it is not lower boat first, names no boat, or is not above the pair before"},
+    {106, 0, "refused, number 6: the rows are too few or too many for the pairs"},
+    {107, 9, "refused, number 7 at row word 9: it allows a slot that the higher boat does not have"},
+    {108, 0, "refused, number 8: the plan's memory has fewer bytes than there are boats"},
+    {109, 0, "refused, number 9: the working memory has fewer than 8192 words"},
+    {110, 0, "refused, number 10: the given plan has not one byte for each boat"},
+    {111, 5, "refused, number 11 at boat 5: the given plan has a slot for it that it does not have"},
+    {190, 4, "not called: parameter 4, counted from 0, is NULL with a length, not aligned, too long, or overlaps "
+        "another part"},
+    {4, 0, "4 is no answer of this call"},
+    {100, 0, "100 is no answer of this call"},
+    {112, 0, "112 is no answer of this call"},
+    {UINT64_MAX, 0, "18446744073709551615 is no answer of this call"},
+};
+
+void lines(void) {
+    say *const all[] = {harbour_say_run, harbour_say_examine, harbour_say_lawful, harbour_say_broken};
+    answers();
+    for (size_t k = 0; k < sizeof all / sizeof all[0]; k++) {
+        for (size_t at = 0; at < sizeof refused / sizeof refused[0]; at++) {
+            line_is(all[k], refused[at].answer, refused[at].place, refused[at].due);
+        }
+    }
+    line_is(harbour_say_examine, 1, 0, "1 is no answer of this call");
+    line_is(harbour_say_lawful, 2, 0, "2 is no answer of this call");
+    line_is(harbour_say_broken, 3, 0, "3 is no answer of this call");
+}

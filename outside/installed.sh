@@ -1,0 +1,116 @@
+#!/usr/bin/env bash
+# outside/installed.sh
+# make install and make uninstall, with and without rt on the path, and programs that have no more to go by than
+# pkg-config: those of README.md, and one in C++.
+set -uo pipefail
+cd "$(dirname "$0")/.."
+. outside/tally.sh
+
+top=$PWD/target/outside/installed
+version=$(cat VERSION)
+major=${version%%.*}
+rm -rf "$top"
+mkdir -p "$top"
+
+# The path without each folder that has rt.
+path_without_rt() {
+    local folder
+    local IFS=:
+    for folder in $PATH; do
+        if [ ! -x "$folder/rt" ]; then printf '%s:' "$folder"; fi
+    done
+}
+
+made() {
+    env -u MAKEFLAGS -u MAKELEVEL make --no-print-directory "$@"
+}
+
+files() {
+    (cd "$1" && find . ! -type d | sort | paste -sd ' ')
+}
+
+due_files() {
+    echo "./include/harbour.h ./lib/libharbour.a ./lib/libharbour.so ./lib/libharbour.so.$major" \
+        "./lib/libharbour.so.$version ./lib/pkgconfig/harbour.pc"
+}
+
+visible() {
+    nm --dynamic --defined-only "$1" | awk '{ print $3 }' | paste -sd ' '
+}
+
+soname() {
+    readelf --dynamic "$1" | sed -n 's/.*SONAME.*\[\(.*\)\]/\1/p'
+}
+
+# The block of one kind under a heading of README.md.
+from_readme() {
+    awk -v heading="## $1" -v kind="$2" '
+        /^## / { inside = $0 == heading }
+        /^```/ { taken = inside && !taken && $0 == "```" kind; next }
+        taken' README.md
+}
+
+# One program of README.md: its text to a file, its command run, and what it prints held to what README.md says.
+program() {
+    local heading=$1 kind=$2 file=$3 command
+    from_readme "$heading" "$kind" > "$top/$file"
+    command=$(from_readme "$heading" sh)
+    holds "README.md has no program under $heading" test -s "$top/$file"
+    same "README.md, $heading" "$(cd "$top" && bash -c "$command" 2>&1)" "$(from_readme "$heading" text)"
+}
+
+in_cpp() {
+    local asked='return harbour_examine_t(harbour_tables()).answer != HARBOUR_FINE;'
+    printf '#include <harbour.h>\nint main() { %s }\n' "$asked" > "$top/no_boats.cpp"
+    c++ -std=c++17 -Wall -Wextra -Wpedantic -Werror "$top/no_boats.cpp" $(pkg-config --cflags --libs harbour) \
+        -o "$top/no_boats" && "$top/no_boats"
+}
+
+# Without the shared library the same words give a program that has the archive in it.
+from_the_archive() {
+    rm "$1"/lib/libharbour.so*
+    cc "$top/night.c" $(pkg-config --cflags --libs harbour) -o "$top/night" && "$top/night" > /dev/null &&
+        ! readelf --dynamic "$top/night" | grep --quiet libharbour
+}
+
+installed_under() {
+    local prefix=$1
+    same "what is installed" "$(files "$prefix")" "$(due_files)"
+    same "what can be seen" "$(visible "$prefix/lib/libharbour.so")" \
+        "harbour_broken harbour_examine harbour_lawful harbour_rows harbour_run"
+    same "soname" "$(soname "$prefix/lib/libharbour.so")" "libharbour.so.$major"
+    same "pkg-config's version" "$(pkg-config --modversion harbour)" "$version"
+    program "In C" c night.c
+    LD_LIBRARY_PATH=$prefix/lib program "In Python" python night.py
+    holds "a program in C++" in_cpp
+    holds "a program with the archive in it" from_the_archive "$prefix"
+}
+
+# All of it under a path: with rt, or without.
+on_path() {
+    local prefix=$top/$1
+    export PATH=$2 PKG_CONFIG_PATH=$prefix/lib/pkgconfig
+    holds "make install" made install PREFIX="$prefix"
+    installed_under "$prefix"
+    holds "make uninstall" made uninstall PREFIX="$prefix"
+    same "what is left" "$(files "$prefix")" ""
+}
+
+# A package is put together elsewhere than where it will stand; in /usr a loader finds it by itself.
+staged() {
+    local pc=$top/stage/usr/lib/pkgconfig/harbour.pc
+    holds "make install, staged" made install PREFIX=/usr DESTDIR="$top/stage"
+    same "what is staged" "$(files "$top/stage/usr")" "$(due_files)"
+    same "where it will stand" "$(sed -n 's/^prefix=//p' "$pc")" /usr
+    same "what a linker is told" "$(sed -n 's/^Libs: //p' "$pc")" '-L${libdir} -lharbour'
+    holds "make uninstall, staged" made uninstall PREFIX=/usr DESTDIR="$top/stage"
+    same "what is left of the stage" "$(files "$top/stage")" ""
+}
+
+without_rt=$(path_without_rt)
+if command -v rt > /dev/null; then on_path with_rt "$PATH"; fi
+on_path without_rt "$without_rt"
+said=$(made install PREFIX="$top/again")
+holds "nothing says that dist/ is used" grep --quiet 'dist/libharbour.a is used' <<< "$said"
+staged
+told
