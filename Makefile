@@ -18,7 +18,7 @@ CFLAGS = -std=c11 -D_POSIX_C_SOURCE=200809L -O2 -Wall -Wextra -Werror
 CXXFLAGS = -std=c++17 -O2 -Wall -Wextra -Werror
 SANITIZED = -O1 -g -fsanitize=address,undefined -fno-sanitize-recover=all
 
-# Without the prover the library is the one in dist/, which a prover built; RT= asks for that where there is one.
+# Without the prover, rt, the library is the one in dist/, which a prover built; RT= asks for that where there is one.
 RT := $(shell command -v rt)
 PROVED = target/staticlib/libharbour.a
 LIBRARY = $(if $(RT),$(PROVED),dist/libharbour.a)
@@ -34,7 +34,7 @@ OUTSIDE = target/outside
 SECONDS = 60
 SEED := $(shell date +%s)
 
-.PHONY: run install uninstall outside bench dist vectors gate clean distclean given fit needs_rt
+.PHONY: run install uninstall outside bench dist vectors gate clean distclean given fit needs_rt always
 
 run: $(EXAMPLE)
 	@$(EXAMPLE)
@@ -46,7 +46,12 @@ CRATES := $(filter-out $(PROGRAMS),$(wildcard crates/*))
 $(PROVED): crates.txt $(shell find $(CRATES) -name '*.rt' -o -name '*.antt') | needs_rt
 	@echo 'proving the library: some minutes the first time'
 	@mkdir -p target
-	@rt staticlib harbour 2>&1 | tee target/harbour.log | grep --line-buffered '^rt:' || { cat target/harbour.log; exit 1; }
+	@$(RT) staticlib harbour 2>&1 | tee target/harbour.log | grep --line-buffered '^rt:' || { cat target/harbour.log; exit 1; }
+
+# What is compared with dist/ is built now: rt knows what is proved already.
+ifneq ($(filter outside,$(MAKECMDGOALS)),)
+$(PROVED): always
+endif
 
 needs_rt:
 	@$(if $(RT),:,echo 'this needs rt, the command of the Rattle toolchain' >&2; exit 1)
@@ -63,8 +68,8 @@ fit:
 	*) echo "the library is built for x86-64 Linux, and $(CC) is not: CC=x86_64-linux-gnu-gcc names such a compiler" >&2; exit 1 ;; \
 	esac
 
-dist: $(PROVED)
-	@bash package/dist.sh $(PROVED)
+dist: needs_rt
+	@bash package/dist.sh $(RT)
 
 # Nothing runs when it is loaded, and only harbour_* can be seen.
 $(SHARED): $(LIBRARY) package/harbour.map | fit
@@ -72,17 +77,18 @@ $(SHARED): $(LIBRARY) package/harbour.map | fit
 	@$(CC) -shared -nostartfiles $(LDFLAGS) -Wl,-soname,libharbour.so.$(firstword $(subst ., ,$(VERSION))) -Wl,-z,defs \
 	    -Wl,--version-script=package/harbour.map -o $@ -Wl,--whole-archive $(LIBRARY) -Wl,--no-whole-archive
 
+# INCLUDEDIR and LIBDIR are under PREFIX where nothing else is said.
 PREFIX = /usr/local
-INCLUDEDIR = $(PREFIX)/include
-LIBDIR = $(PREFIX)/lib
+INCLUDEDIR =
+LIBDIR =
 DESTDIR =
-INSTALLED = PREFIX=$(abspath $(PREFIX)) INCLUDEDIR=$(abspath $(INCLUDEDIR)) LIBDIR=$(abspath $(LIBDIR)) DESTDIR=$(DESTDIR)
+WHERE = PREFIX='$(PREFIX)' INCLUDEDIR='$(INCLUDEDIR)' LIBDIR='$(LIBDIR)' DESTDIR='$(DESTDIR)'
 
 install: $(LIBRARY) $(SHARED)
-	@$(INSTALLED) bash package/install.sh $^
+	@$(WHERE) bash package/install.sh $^
 
 uninstall:
-	@$(INSTALLED) bash package/uninstall.sh
+	@$(WHERE) bash package/uninstall.sh
 
 # One program of the C files among what it is made from, of what is compiled already, and the library.
 define compiled
@@ -105,18 +111,18 @@ $(EXAMPLE): $(wildcard example/*.[ch] c/*.c) $(HEADERS) $(LIBRARY) | fit
 GCC = $(if $(findstring gcc,$(CC)),$(CC),gcc)
 CLANG = clang --target=$(shell $(GCC) -dumpmachine)
 COMPILERS := gcc $(if $(shell command -v $(firstword $(CLANG))),clang)
-PLAIN = plain examine call
-PLAIN_NAMES = plain_run plain_examine plain_call plain_version
+PLAIN = plain examine call whole
+PLAIN_NAMES = plain_run plain_examine plain_call plain_version whole_run
 
 define built_by
 @mkdir -p $(@D)
 @$(2) $(CFLAGS) $(INCLUDED) $(foreach name,$(PLAIN_NAMES),-D$(name)=$(name)_$(1)) -c -o $@ $<
 endef
 
-$(BENCHED)/gcc/%.o: bench/%.c bench/plain.h $(HEADERS)
+$(BENCHED)/gcc/%.o: bench/%.c $(wildcard bench/*.h) $(HEADERS)
 	$(call built_by,gcc,$(GCC))
 
-$(BENCHED)/clang/%.o: bench/%.c bench/plain.h $(HEADERS)
+$(BENCHED)/clang/%.o: bench/%.c $(wildcard bench/*.h) $(HEADERS)
 	$(call built_by,clang,$(CLANG))
 
 # Aligned functions: where the plain search falls in memory should not decide how fast it is.
@@ -157,7 +163,7 @@ $(filter %/library,$(BUILT)): $(wildcard outside/library/*.[ch]) $(LENT) $(HEADE
 
 outside: $(SECOND) $(BUILT) $(SHARED)
 	@cargo test --quiet --offline --release --manifest-path outside/second/Cargo.toml --target-dir target/second > target/second.log 2>&1 || { cat target/second.log; exit 1; }
-	@bash outside/compare.sh $(SHARED) $(SEED) $(SECONDS)
+	@RT='$(RT)' bash outside/compare.sh $(SHARED) $(SEED) $(SECONDS)
 
 bench: $(BENCH)
 	@$(BENCH)

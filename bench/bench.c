@@ -1,5 +1,6 @@
 /* The proved library beside plain C, on the same problems in one run; with the word "each", a line a file too. */
 #include "families.h"
+#include "form.h"
 #include "lines.h"
 
 #include <stdio.h>
@@ -39,17 +40,16 @@ static void try_zebra(void)
     printf("The zebra has 61 pairs and 11 plans; the first of them is found.\n\n");
 }
 
-/* Sums over all families, and the largest ratio on any, for each method. */
-static void measure_families(int each, sums *all, double *largest)
+/* Sums over each family and over all, and the largest ratio on any, for each method. */
+static void measure_families(int each, sums part[][METHODS], sums *all, double *largest)
 {
-    for (unsigned f = 0; f < family_count; f++) {
-        sums part[METHODS] = { 0 };
-        measure_family(&families[f], searches, each ? print_searches : NULL, part);
+    for (unsigned f = 0; f < FAMILIES; f++) {
+        measure_family(&families[f], searches, each ? print_searches : NULL, part[f]);
         for (uint64_t m = HARBOUR_BT; m < METHODS; m++) {
-            print_searches(families[f].name, method_name[m], &part[m]);
-            add(&all[m], &part[m]);
-            if (larger_ratio(&part[m]) > largest[m])
-                largest[m] = larger_ratio(&part[m]);
+            print_searches(families[f].name, method_name[m], &part[f][m]);
+            add(&all[m], &part[f][m]);
+            if (larger_ratio(&part[f][m]) > largest[m])
+                largest[m] = larger_ratio(&part[f][m]);
         }
     }
 }
@@ -67,12 +67,12 @@ static sums measure_tiny(int each)
 int main(int count, char **word)
 {
     const int each = count > 1 && strcmp(word[1], "each") == 0;
-    sums all[METHODS] = { 0 };
+    sums part[FAMILIES][METHODS] = { 0 }, all[METHODS] = { 0 };
     double largest[METHODS] = { 0 };
     print_compilers();
     try_zebra();
     print_head();
-    measure_families(each, all, largest);
+    measure_families(each, part, all, largest);
     printf("\n");
     for (uint64_t m = HARBOUR_BT; m < METHODS; m++)
         print_searches("all together", method_name[m], &all[m]);
@@ -81,5 +81,6 @@ int main(int count, char **word)
     print_calls(tiny_tables.name, "all", &tiny);
     printf("\nAnswers, counts and plans agree in all %u files and %u tiny ones.\n", file_count(), tiny_tables.files);
     print_larger(all, largest, &tiny);
+    print_form(part, all);
     return 0;
 }

@@ -44,20 +44,18 @@ static void tiny(draft *d, unsigned file)
 
 const family tiny_tables = { "tiny tables", 3, HARBOUR_AMPLE, tiny };
 
-const family families[] = {
-    { "queens 8 to 20", QUEENS_MOST - QUEENS_LEAST + 1, 30000000, queens },
+const family families[FAMILIES] = {
+    [QUEENS] = { "queens 8 to 20", QUEENS_MOST - QUEENS_LEAST + 1, 30000000, queens },
     { "zebra", 12, 5000000, make_zebra },
     { "crossover 20x10", 8, 5000000, crossover },
     { "crossover 30x8", 8, 5000000, larger_crossover },
     { "64 boats", 11, 5000000, sixty_four },
 };
 
-const unsigned family_count = sizeof families / sizeof *families;
-
 unsigned file_count(void)
 {
     unsigned files = 0;
-    for (unsigned f = 0; f < family_count; f++)
+    for (unsigned f = 0; f < FAMILIES; f++)
         files += families[f].files;
     return files;
 }

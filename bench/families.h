@@ -11,8 +11,10 @@ typedef struct {
     void (*make)(draft *d, unsigned file);
 } family;
 
-extern const family families[], tiny_tables;
-extern const unsigned family_count;
+/* Boards of queens are the first. */
+enum { QUEENS, FAMILIES = 5 };
+
+extern const family families[FAMILIES], tiny_tables;
 
 /* Of all families; the tiny tables are none. */
 unsigned file_count(void);

@@ -20,6 +20,12 @@ static double now(void)
     return (double)t.tv_sec + 1e-9 * (double)t.tv_nsec;
 }
 
+/* Those that take part: the last ones, by whole words, where there are such. */
+static int sides_of(const job *j)
+{
+    return j->by[GCC_WORDS] && j->method <= HARBOUR_CBJ ? ALL_SIDES : SIDES;
+}
+
 static outcome run_once(const job *j, int side)
 {
     return j->by[side](j->of, j->method, j->allowance, j->allowance);
@@ -37,7 +43,7 @@ static double stretch(const job *j, int side, unsigned runs)
 static void differ(const job *j, const outcome *o)
 {
     printf("DIFFER: %s, file %u, %s\n", j->family, j->file, method_name[j->method]);
-    for (int side = LIBRARY; side < SIDES; side++)
+    for (int side = LIBRARY; side < sides_of(j); side++)
         printf("  %s: answer %llu, checks %llu, trials %llu\n", side_name[side],
                (unsigned long long)o[side].reply.answer, (unsigned long long)o[side].reply.checks,
                (unsigned long long)o[side].reply.trials);
@@ -46,10 +52,10 @@ static void differ(const job *j, const outcome *o)
 
 outcome agreed(const job *j)
 {
-    outcome o[SIDES];
-    for (int side = LIBRARY; side < SIDES; side++)
+    outcome o[ALL_SIDES];
+    for (int side = LIBRARY; side < sides_of(j); side++)
         o[side] = run_once(j, side);
-    for (int side = GCC; side < SIDES; side++)
+    for (int side = GCC; side < sides_of(j); side++)
         if (memcmp(&o[LIBRARY], &o[side], sizeof *o) != 0)
             differ(j, o);
     return o[LIBRARY];
@@ -62,7 +68,7 @@ sums measured(const job *j)
     double once = stretch(j, GCC, 1);
     unsigned runs = once < STRETCH ? (unsigned)(STRETCH / (once + 1e-9)) + 1 : 1;
     for (int round = 0; round < ROUNDS; round++)
-        for (int side = LIBRARY; side < SIDES; side++) {
+        for (int side = LIBRARY; side < sides_of(j); side++) {
             double took = stretch(j, side, runs);
             if (round == 0 || took < s.seconds[side])
                 s.seconds[side] = took;
@@ -75,7 +81,7 @@ void add(sums *to, const sums *s)
     to->jobs += s->jobs;
     to->checks += s->checks;
     to->trials += s->trials;
-    for (int side = LIBRARY; side < SIDES; side++)
+    for (int side = LIBRARY; side < ALL_SIDES; side++)
         to->seconds[side] += s->seconds[side];
 }
 
@@ -91,4 +97,9 @@ double larger_ratio(const sums *s)
         if (ratio(s, side) > larger)
             larger = ratio(s, side);
     return larger;
+}
+
+double form_ratio(const sums *s, int side)
+{
+    return s->seconds[side] / s->seconds[side - GCC + GCC_WORDS];
 }

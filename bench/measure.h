@@ -21,7 +21,7 @@ typedef struct {
 typedef struct {
     unsigned jobs;
     uint64_t checks, trials;
-    double seconds[SIDES];
+    double seconds[ALL_SIDES];
 } sums;
 
 /* Answer, counts and plan, the same from all sides; the program ends where they differ. */
@@ -37,5 +37,8 @@ double ratio(const sums *s, int side);
 
 /* The one that counts. */
 double larger_ratio(const sums *s);
+
+/* BT and CBJ alone: a plain side's time, slot by slot, over the same compiler's by whole words. */
+double form_ratio(const sums *s, int side);
 
 #endif

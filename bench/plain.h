@@ -8,6 +8,9 @@
 /* As the library's run. The tables must be fit; nothing is examined. */
 outcome plain_run(const draft *of, uint64_t method, uint64_t checks, uint64_t trials);
 
+/* As plain_run, of BT and CBJ alone, by whole words. */
+outcome whole_run(const draft *of, uint64_t method, uint64_t checks, uint64_t trials);
+
 /* As the library's examination. */
 harbour_reply plain_examine(const harbour_tables *t);
 

@@ -3,18 +3,18 @@
 #include <stdio.h>
 
 /* plain.h's names, as the two builds have them. */
-runner plain_run_gcc, plain_call_gcc, plain_run_clang, plain_call_clang;
+runner plain_run_gcc, plain_call_gcc, whole_run_gcc, plain_run_clang, plain_call_clang, whole_run_clang;
 extern const char plain_version_gcc[], plain_version_clang[];
 
 #ifdef WITH_CLANG
-#define EACH(library, gcc, clang) { [LIBRARY] = library, [GCC] = gcc, [CLANG] = clang }
+#define EACH(library, gcc, clang, gcc_words, clang_words) { library, gcc, clang, gcc_words, clang_words }
 #else
-#define EACH(library, gcc, clang) { [LIBRARY] = library, [GCC] = gcc }
+#define EACH(library, gcc, clang, gcc_words, clang_words) { library, gcc, gcc_words }
 #endif
 
-runner *const searches[SIDES] = EACH(run, plain_run_gcc, plain_run_clang);
-runner *const calls[SIDES] = EACH(run, plain_call_gcc, plain_call_clang);
-const char *const side_name[SIDES] = EACH("library", "gcc", "clang");
+runner *const searches[ALL_SIDES] = EACH(run, plain_run_gcc, plain_run_clang, whole_run_gcc, whole_run_clang);
+runner *const calls[ALL_SIDES] = EACH(run, plain_call_gcc, plain_call_clang, NULL, NULL);
+const char *const side_name[ALL_SIDES] = EACH("library", "gcc", "clang", "gcc by words", "clang by words");
 
 void print_compilers(void)
 {

@@ -1,4 +1,4 @@
-/* What is timed: the library, and beside it the plain C as each compiler builds it. */
+/* What is timed: the library, and beside it the plain C as each compiler builds it, slot by slot and by whole words. */
 #ifndef SIDES_H
 #define SIDES_H
 
@@ -6,17 +6,18 @@
 
 /* The Makefile defines WITH_CLANG where it finds one. */
 #ifdef WITH_CLANG
-enum { LIBRARY, GCC, CLANG, SIDES };
+enum { LIBRARY, GCC, CLANG, SIDES, GCC_WORDS = SIDES, CLANG_WORDS, ALL_SIDES };
 #else
-enum { LIBRARY, GCC, SIDES };
+enum { LIBRARY, GCC, SIDES, GCC_WORDS = SIDES, ALL_SIDES };
 #endif
 
 typedef outcome runner(const draft *of, uint64_t method, uint64_t checks, uint64_t trials);
 
-/* One a side. The library examines and clears in both; the plain C searches alone, or does all of it. */
-extern runner *const searches[SIDES], *const calls[SIDES];
+/* One a side. The library examines and clears in both; the plain C searches alone, or does all of it. By whole words
+   there are searches alone, of BT and CBJ. */
+extern runner *const searches[ALL_SIDES], *const calls[ALL_SIDES];
 
-extern const char *const side_name[SIDES];
+extern const char *const side_name[ALL_SIDES];
 
 /* Which compilers, in a line. */
 void print_compilers(void);

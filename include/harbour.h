@@ -25,10 +25,12 @@
 #ifndef HARBOUR_H
 #define HARBOUR_H
 
-#include <inttypes.h>
 #include <stddef.h>
 #include <stdint.h>
+#if __STDC_HOSTED__
+#include <inttypes.h>
 #include <stdio.h>
+#endif
 
 #ifdef __cplusplus
 extern "C" {
@@ -52,7 +54,7 @@ extern "C" {
 #define HARBOUR_FC UINT64_C(4)        /* forward checking */
 #define HARBOUR_FC_CBJ UINT64_C(5)    /* forward checking with conflict-directed backjumping */
 
-/* the largest allowance there is; an allowance of 0 allows nothing, and is not "without limit" */
+/* the largest allowance there is; an allowance of 0 allows none, and is not "without limit" */
 #define HARBOUR_AMPLE UINT64_MAX
 
 /* answers of harbour_run (4 is kept free) */
@@ -257,6 +259,8 @@ static inline harbour_part harbour_rows_t(harbour_tables tables, uint64_t lower,
         lower, higher);
 }
 
+#if __STDC_HOSTED__
+
 /* A reply in one English line, with no end of line: puts(harbour_say_run(reply).text). */
 typedef struct {
     char text[192];
@@ -291,15 +295,12 @@ static inline const char *harbour_place_names(uint64_t answer) {
     }
 }
 
-/* What every kind of reply may say: a refusal, something owed, or a number that no answer has. */
+/* A refusal, or a number that no answer has. */
 static inline harbour_line harbour_say_refused(harbour_reply reply) {
     harbour_line line;
     const char *const cause = harbour_cause(reply.answer), *const names = harbour_place_names(reply.answer);
     const uint64_t number = reply.answer - HARBOUR_REFUSED;
-    if (reply.answer == HARBOUR_OWED) {
-        snprintf(line.text, sizeof line.text, "not called: parameter %" PRIu64 ", counted from 0, is NULL with a "
-            "length, not aligned, too long, or overlaps another part", reply.place);
-    } else if (cause == NULL) {
+    if (cause == NULL) {
         snprintf(line.text, sizeof line.text, "%" PRIu64 " is no answer of this call", reply.answer);
     } else if (names == NULL) {
         snprintf(line.text, sizeof line.text, "refused, number %" PRIu64 ": %s", number, cause);
@@ -307,6 +308,17 @@ static inline harbour_line harbour_say_refused(harbour_reply reply) {
         snprintf(line.text, sizeof line.text, "refused, number %" PRIu64 " at %s %" PRIu64 ": %s", number, names,
             reply.place, cause);
     }
+    return line;
+}
+
+/* That, or something owed, by the name of its part: the plain function has sizes at this place. */
+static inline harbour_line harbour_say_not_done(harbour_reply reply, uint64_t place_of_sizes, const char *fourth) {
+    harbour_line line;
+    const char *const names[] = {"sizes", "pairs", "rows", fourth, "work"};
+    const uint64_t part = (reply.place - place_of_sizes) / 2;
+    if (reply.answer != HARBOUR_OWED) return harbour_say_refused(reply);
+    snprintf(line.text, sizeof line.text, "not called: %s is NULL with a length, not aligned, too long, or overlaps "
+        "another part", part < sizeof names / sizeof names[0] ? names[part] : "a part");
     return line;
 }
 
@@ -335,31 +347,33 @@ static inline harbour_line harbour_say_run(harbour_reply reply) {
     case HARBOUR_UNDECIDED_BY_TRIALS:
         return harbour_say_counted("undecided", reply, "the trials allowed are used up, and a plan may exist or not");
     default:
-        return harbour_say_refused(reply);
+        return harbour_say_not_done(reply, 1, "plan");
     }
 }
 
 /* Of harbour_examine and harbour_examine_t. */
 static inline harbour_line harbour_say_examine(harbour_reply reply) {
     if (reply.answer == HARBOUR_FINE) return harbour_say_text("the tables are fine");
-    return harbour_say_refused(reply);
+    return harbour_say_not_done(reply, 0, "a part");
 }
 
 /* Of harbour_lawful and harbour_lawful_t. */
 static inline harbour_line harbour_say_lawful(harbour_reply reply) {
     if (reply.answer == HARBOUR_LAWFUL) return harbour_say_text("the plan is lawful");
     if (reply.answer == HARBOUR_UNLAWFUL) return harbour_say_text("the plan is not lawful: it breaks a pair");
-    return harbour_say_refused(reply);
+    return harbour_say_not_done(reply, 0, "given");
 }
 
 /* Of harbour_broken and harbour_broken_t. */
 static inline harbour_line harbour_say_broken(harbour_reply reply) {
     harbour_line line;
     if (reply.answer == HARBOUR_UNBROKEN) return harbour_say_text("the plan breaks no pair");
-    if (reply.answer != HARBOUR_BROKEN) return harbour_say_refused(reply);
+    if (reply.answer != HARBOUR_BROKEN) return harbour_say_not_done(reply, 0, "given");
     snprintf(line.text, sizeof line.text, "the plan breaks pair %" PRIu64 ", and no lower one", reply.place);
     return line;
 }
+
+#endif
 
 #ifdef __cplusplus
 }

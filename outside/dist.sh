@@ -30,16 +30,21 @@ kept_bytes() {
 }
 
 version=$(cat VERSION)
-if command -v rt > /dev/null; then
+rt=${RT-rt}
+if command -v "$rt" > /dev/null; then
     holds "dist/ has not the archive that the proofs build: make dist" cmp target/staticlib/libharbour.a dist/libharbour.a
-    same "the toolchain of dist/FROM" "$(of toolchain)" "$(rt version)"
+    same "the toolchain of dist/FROM" "$(of toolchain)" "$("$rt" version)"
 else
     echo "NOT COMPARED: there is no rt, so nothing was built from proofs"
 fi
 holds "dist/harbour.h is not include/harbour.h: make dist" cmp include/harbour.h dist/harbour.h
 holds "dist/SHA256SUMS" env -C dist sha256sum --check --quiet --strict SHA256SUMS
 same "what dist/SHA256SUMS is of" "$(awk '{ print $2 }' dist/SHA256SUMS | sort | paste -sd ' ')" "harbour.h libharbour.a"
-same "the tree of dist/FROM" "$(of tree)" "$(bash package/tree.sh)"
+if [ -e .git ]; then
+    same "the tree of dist/FROM" "$(of tree)" "$(bash package/tree.sh 2>&1)"
+else
+    echo "NOT COMPARED: this is no checkout of git, so crates/ has no tree"
+fi
 same "the version of dist/FROM" "$(of version)" "$version"
 same "HARBOUR_VERSION" "$(defined HARBOUR_VERSION)" "$version"
 same "HARBOUR_VERSION_NUMBER" "$(defined HARBOUR_VERSION_NUMBER)" "$(number_of "$version")"

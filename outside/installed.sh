@@ -14,11 +14,12 @@ mkdir -p "$top"
 
 # The path without each folder that has rt.
 path_without_rt() {
-    local folder
+    local folder without=
     local IFS=:
     for folder in $PATH; do
-        if [ ! -x "$folder/rt" ]; then printf '%s:' "$folder"; fi
+        if [ ! -x "$folder/rt" ]; then without="${without:+$without:}$folder"; fi
     done
+    echo "$without"
 }
 
 made() {
@@ -52,11 +53,12 @@ from_readme() {
 
 # One program of README.md: its text to a file, its command run, and what it prints held to what README.md says.
 program() {
-    local heading=$1 kind=$2 file=$3 command
+    local heading=$1 kind=$2 file=$3 command due
     from_readme "$heading" "$kind" > "$top/$file"
     command=$(from_readme "$heading" sh)
-    holds "README.md has no program under $heading" test -s "$top/$file"
-    same "README.md, $heading" "$(cd "$top" && bash -c "$command" 2>&1)" "$(from_readme "$heading" text)"
+    due=$(from_readme "$heading" text)
+    holds "README.md has no program under $heading" test -s "$top/$file" -a -n "$command" -a -n "$due"
+    same "README.md, $heading" "$(cd "$top" && bash -c "$command" 2>&1)" "$due"
 }
 
 in_cpp() {

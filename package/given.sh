@@ -9,7 +9,14 @@ wrong() {
     exit 1
 }
 
-(cd dist && sha256sum --check --quiet SHA256SUMS) || wrong "its files are not those of dist/SHA256SUMS"
+# A file without a sum would pass for one that fits.
+summed() {
+    awk '{ print $2 }' dist/SHA256SUMS | sort | paste -sd ' '
+}
+
+command -v sha256sum > /dev/null || wrong "there is no sha256sum to test it with"
+[ "$(summed)" = "harbour.h libharbour.a" ] || wrong "dist/SHA256SUMS is not of its two files"
+(cd dist && sha256sum --check --quiet --strict SHA256SUMS) || wrong "its files are not those of dist/SHA256SUMS"
 cmp --quiet include/harbour.h dist/harbour.h || wrong "its header is not include/harbour.h"
 echo "rt is not found, so nothing is proved here: dist/libharbour.a is used, which was built from proofs:"
 sed 's/^/  /' dist/FROM

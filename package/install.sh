@@ -1,28 +1,38 @@
 #!/usr/bin/env bash
 # package/install.sh ARCHIVE SHARED
-# What `make install` does, with PREFIX, INCLUDEDIR, LIBDIR and DESTDIR from the environment.
+# What `make install` does.
 set -euo pipefail
 cd "$(dirname "$0")/.."
+. package/where.sh
 
-version=$(cat VERSION)
-major=${version%%.*}
-include=$DESTDIR$INCLUDEDIR
-lib=$DESTDIR$LIBDIR
+# Outside /usr a program that is linked by it has to be told where the library is.
+pkg_config_file() {
+    local rpath=
+    if [ "$prefix" != /usr ]; then rpath=' -Wl,-rpath,${libdir}'; fi
+    cat << PC
+prefix=$prefix
+includedir=$includedir
+libdir=$libdir
 
-# A loader looks in /usr by itself, elsewhere only where it is told to.
-rpath=
-if [ "$PREFIX" != /usr ]; then rpath=' -Wl,-rpath,${libdir}'; fi
+Name: harbour
+Description: Oonjaluvai, the harbour's planner: landing slots for fishing boats, by a proved search
+Version: $version
+Cflags: -I\${includedir}
+Libs: -L\${libdir} -lharbour$rpath
+PC
+}
 
-install -d "$include" "$lib/pkgconfig"
+mkdir -p "$include" "$lib/pkgconfig"
 install -m 644 include/harbour.h "$include/harbour.h"
 install -m 644 "$1" "$lib/libharbour.a"
 install -m 755 "$2" "$lib/libharbour.so.$version"
 ln -sf "libharbour.so.$version" "$lib/libharbour.so.$major"
 ln -sf "libharbour.so.$major" "$lib/libharbour.so"
-sed -e "s|@PREFIX@|$PREFIX|" -e "s|@INCLUDEDIR@|$INCLUDEDIR|" -e "s|@LIBDIR@|$LIBDIR|" \
-    -e "s|@VERSION@|$version|" -e "s|@RPATH@|$rpath|" package/harbour.pc.in > "$lib/pkgconfig/harbour.pc"
+pkg_config_file > "$lib/pkgconfig/harbour.pc"
 chmod 644 "$lib/pkgconfig/harbour.pc"
+tell_loader
 
-# The loader's own list of libraries; where it cannot be written, programs by pkg-config find the library all the same.
-if [ -z "$DESTDIR" ] && command -v ldconfig > /dev/null; then ldconfig 2> /dev/null || true; fi
 echo "harbour $version: $include/harbour.h, $lib/libharbour.a, $lib/libharbour.so.$version, $lib/pkgconfig/harbour.pc"
+if [ -z "$DESTDIR" ] && [ "$prefix" != /usr ] && [ "$prefix" != /usr/local ]; then
+    echo "pkg-config finds it by PKG_CONFIG_PATH=$libdir/pkgconfig, and Python by LD_LIBRARY_PATH=$libdir"
+fi

@@ -52,7 +52,8 @@ class Refused(ValueError):
         self.number, self.place = number, place
 
     def __str__(self) -> str:
-        return f"refused, number {self.number}: {_CAUSES[self.number].format(self.place)}"
+        cause = _CAUSES.get(self.number, "at place {}").format(self.place)
+        return f"refused, number {self.number}: {cause}"
 
 
 class Undecided(Exception):

@@ -43,17 +43,35 @@ static const struct {
     {109, 0, "refused, number 9: the working memory has fewer than 8192 words"},
     {110, 0, "refused, number 10: the given plan has not one byte for each boat"},
     {111, 5, "refused, number 11 at boat 5: the given plan has a slot for it that it does not have"},
-    {190, 4, "not called: parameter 4, counted from 0, is NULL with a length, not aligned, too long, or overlaps "
-        "another part"},
     {4, 0, "4 is no answer of this call"},
     {100, 0, "100 is no answer of this call"},
     {112, 0, "112 is no answer of this call"},
     {UINT64_MAX, 0, "18446744073709551615 is no answer of this call"},
 };
 
+/* The part at fault, by its name; the places are those that outside/guards/guarded.c lists. */
+static void owed(say *says, uint64_t place, const char *part) {
+    char due[160];
+    snprintf(due, sizeof due, "not called: %s is NULL with a length, not aligned, too long, or overlaps another part",
+        part);
+    line_is(says, 190, place, due);
+}
+
+static void every_owed(void) {
+    const char *const of_run[] = {"sizes", "pairs", "rows", "plan", "work"};
+    const char *const of_question[] = {"sizes", "pairs", "rows", "given"};
+    for (uint64_t at = 0; at < 5; at++) owed(harbour_say_run, 2 * at + 1, of_run[at]);
+    for (uint64_t at = 0; at < 3; at++) owed(harbour_say_examine, 2 * at, of_question[at]);
+    for (uint64_t at = 0; at < 4; at++) owed(harbour_say_lawful, 2 * at, of_question[at]);
+    for (uint64_t at = 0; at < 4; at++) owed(harbour_say_broken, 2 * at, of_question[at]);
+    owed(harbour_say_run, 11, "a part");
+    owed(harbour_say_run, UINT64_MAX, "a part");
+}
+
 void lines(void) {
     say *const all[] = {harbour_say_run, harbour_say_examine, harbour_say_lawful, harbour_say_broken};
     answers();
+    every_owed();
     for (size_t k = 0; k < sizeof all / sizeof all[0]; k++) {
         for (size_t at = 0; at < sizeof refused / sizeof refused[0]; at++) {
             line_is(all[k], refused[at].answer, refused[at].place, refused[at].due);
