@@ -85,7 +85,7 @@ extern "C" {
 #define HARBOUR_REFUSED_GIVEN_SLOT UINT64_C(111)      /* a given slot is past its boat's; place: the boat */
 
 /* answer of the functions that end in _t alone: something is owed, and nothing was called; place: the
- * index of the pointer at fault among the plain function's parameters */
+ * index of the pointer at fault, from 0, among the plain function's parameters */
 #define HARBOUR_OWED UINT64_C(190)
 
 /* Place is 0 where none is named. The counts are those of a run; they are 0 on a refusal and
@@ -129,8 +129,8 @@ harbour_part harbour_rows(const uint8_t *sizes, size_t n, const uint8_t *pairs, 
  * length whose bytes pass the end of the address space; the first at fault is named. Then overlaps: of
  * the pointers to a part that overlaps an earlier one, where either is written, the first is named. A
  * part of length 0 is never at fault, and two that are only read may overlap. A fault is answered with
- * HARBOUR_OWED, all other fields 0; nothing is called, and every part is as it was. (What no test can
- * see: whether a part is valid for its length, and whether somebody else changes it.) */
+ * HARBOUR_OWED and that pointer's place, both counts 0; nothing is called, and every part is as it was.
+ * (What no test can see: whether a part is valid for its length, and whether somebody changes it.) */
 
 /* The tables, by value. */
 typedef struct {
