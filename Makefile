@@ -77,18 +77,17 @@ $(SHARED): $(LIBRARY) package/harbour.map | fit
 	@$(CC) -shared -nostartfiles $(LDFLAGS) -Wl,-soname,libharbour.so.$(firstword $(subst ., ,$(VERSION))) -Wl,-z,defs \
 	    -Wl,--version-script=package/harbour.map -o $@ -Wl,--whole-archive $(LIBRARY) -Wl,--no-whole-archive
 
-# INCLUDEDIR and LIBDIR are under PREFIX where nothing else is said.
 PREFIX = /usr/local
-INCLUDEDIR =
-LIBDIR =
+INCLUDEDIR = include
+LIBDIR = lib
 DESTDIR =
-WHERE = PREFIX='$(PREFIX)' INCLUDEDIR='$(INCLUDEDIR)' LIBDIR='$(LIBDIR)' DESTDIR='$(DESTDIR)'
+export PREFIX INCLUDEDIR LIBDIR DESTDIR
 
 install: $(LIBRARY) $(SHARED)
-	@$(WHERE) bash package/install.sh $^
+	@bash package/install.sh $^
 
 uninstall:
-	@$(WHERE) bash package/uninstall.sh
+	@bash package/uninstall.sh
 
 # One program of the C files among what it is made from, of what is compiled already, and the library.
 define compiled
@@ -114,15 +113,21 @@ COMPILERS := gcc $(if $(shell command -v $(firstword $(CLANG))),clang)
 PLAIN = plain examine call whole
 PLAIN_NAMES = plain_run plain_examine plain_call plain_version whole_run
 
+# What is built by other compilers than are named now is built again.
+BUILT_BY = $(GCC), $(CLANG), $(COMPILERS)
+$(BENCHED)/compilers: always
+	@mkdir -p $(@D)
+	@echo '$(BUILT_BY)' | cmp --quiet - $@ || echo '$(BUILT_BY)' > $@
+
 define built_by
 @mkdir -p $(@D)
 @$(2) $(CFLAGS) $(INCLUDED) $(foreach name,$(PLAIN_NAMES),-D$(name)=$(name)_$(1)) -c -o $@ $<
 endef
 
-$(BENCHED)/gcc/%.o: bench/%.c $(wildcard bench/*.h) $(HEADERS)
+$(BENCHED)/gcc/%.o: bench/%.c $(wildcard bench/*.h) $(HEADERS) $(BENCHED)/compilers
 	$(call built_by,gcc,$(GCC))
 
-$(BENCHED)/clang/%.o: bench/%.c $(wildcard bench/*.h) $(HEADERS)
+$(BENCHED)/clang/%.o: bench/%.c $(wildcard bench/*.h) $(HEADERS) $(BENCHED)/compilers
 	$(call built_by,clang,$(CLANG))
 
 # Aligned functions: where the plain search falls in memory should not decide how fast it is.

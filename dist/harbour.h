@@ -1,4 +1,4 @@
-/* Oonjaluvai, the harbour's planner, for C and C++ on x86-64 Linux.
+/* Oonjaluvai, the harbour's planner, for C (C99 and later) and C++ (C++11 and later), on x86-64 Linux.
  *
  * A harbour is three tables:
  *   sizes   one byte for each boat: how many slots it has, 1 to 64; at most 64 boats
@@ -17,7 +17,7 @@
  * Call the functions whose names end in _t. They take the tables as one struct, and test of what is
  * owed all that can be seen in pointers and lengths. The plain ones test none of it, and nothing is
  * promised to those who break it: rows that overlap the working words are cleared with them, and the
- * answer is a false "no plan"; NULL with a length ends the program.
+ * answer is a false "no plan"; NULL with a length may end the program.
  *
  * The library keeps no state and takes no memory but what is lent and some stack: it is reentrant,
  * and calls may run at the same time, each on parts of its own (or on shared ones that are only read).
@@ -273,7 +273,7 @@ static inline const char *harbour_cause(uint64_t answer) {
     case HARBOUR_REFUSED_BOATS: return "there are more than 64 boats";
     case HARBOUR_REFUSED_SIZE: return "it has no slot, or more than 64";
     case HARBOUR_REFUSED_PAIR_BYTES: return "the pairs have an odd number of bytes, or more than 4032";
-    case HARBOUR_REFUSED_PAIR: return "it is not lower boat first, names no boat, or is not above the pair before";
+    case HARBOUR_REFUSED_PAIR: return "it is not lower boat first, names a boat that is not there, or is not above the pair before";
     case HARBOUR_REFUSED_ROW_WORDS: return "the rows are too few or too many for the pairs";
     case HARBOUR_REFUSED_ROW_BIT: return "it allows a slot that the higher boat does not have";
     case HARBOUR_REFUSED_PLAN_MEMORY: return "the plan's memory has fewer bytes than there are boats";

@@ -140,6 +140,7 @@ done
 step "the library on every kind, under valgrind" fresh_of_every_kind $checker $built/library --exact
 step "the library on every kind, under the sanitizers" fresh_of_every_kind $built/sanitized/library --exact
 step "dist, and what the proofs build" bash outside/dist.sh
+step "dist, where there is no prover" bash outside/given.sh
 step "installed: README's programs, by pkg-config alone" bash outside/installed.sh
 step "the Python binding" bash outside/python.sh "$shared"
 fresh_rounds=0

@@ -45,6 +45,7 @@ if [ -e .git ]; then
 else
     echo "NOT COMPARED: this is no checkout of git, so crates/ has no tree"
 fi
+same "the target of dist/FROM" "$(of target)" "x86-64 Linux"
 same "the version of dist/FROM" "$(of version)" "$version"
 same "HARBOUR_VERSION" "$(defined HARBOUR_VERSION)" "$version"
 same "HARBOUR_VERSION_NUMBER" "$(defined HARBOUR_VERSION_NUMBER)" "$(number_of "$version")"

@@ -35,12 +35,21 @@ due_files() {
         "./lib/libharbour.so.$version ./lib/pkgconfig/harbour.pc"
 }
 
+# Of files and folders, each once.
+modes() {
+    find "$1" ! -type l -printf '%m\n' | sort -u | paste -sd ' '
+}
+
 visible() {
     nm --dynamic --defined-only "$1" | awk '{ print $3 }' | paste -sd ' '
 }
 
 soname() {
     readelf --dynamic "$1" | sed -n 's/.*SONAME.*\[\(.*\)\]/\1/p'
+}
+
+runs_when_loaded() {
+    readelf --dynamic "$1" | grep --count --extended-regexp 'INIT|FINI'
 }
 
 # The block of one kind under a heading of README.md.
@@ -81,6 +90,7 @@ installed_under() {
     same "what can be seen" "$(visible "$prefix/lib/libharbour.so")" \
         "harbour_broken harbour_examine harbour_lawful harbour_rows harbour_run"
     same "soname" "$(soname "$prefix/lib/libharbour.so")" "libharbour.so.$major"
+    same "what runs when it is loaded" "$(runs_when_loaded "$prefix/lib/libharbour.so")" 0
     same "pkg-config's version" "$(pkg-config --modversion harbour)" "$version"
     program "In C" c night.c
     LD_LIBRARY_PATH=$prefix/lib program "In Python" python night.py
@@ -98,21 +108,35 @@ on_path() {
     same "what is left" "$(files "$prefix")" ""
 }
 
-# A package is put together elsewhere than where it will stand; in /usr a loader finds it by itself.
+# A package is put together elsewhere than where it will stand; where a loader looks by itself, none is told where.
 staged() {
-    local pc=$top/stage/usr/lib/pkgconfig/harbour.pc
-    holds "make install, staged" made install PREFIX=/usr DESTDIR="$top/stage"
-    same "what is staged" "$(files "$top/stage/usr")" "$(due_files)"
+    local stage=$top/stage pc=$top/stage/usr/lib/pkgconfig/harbour.pc
+    holds "make install, staged" made install PREFIX=/usr DESTDIR="$stage"
+    same "what is staged" "$(files "$stage/usr")" "$(due_files)"
     same "where it will stand" "$(sed -n 's/^prefix=//p' "$pc")" /usr
     same "what a linker is told" "$(sed -n 's/^Libs: //p' "$pc")" '-L${libdir} -lharbour'
-    holds "make uninstall, staged" made uninstall PREFIX=/usr DESTDIR="$top/stage"
-    same "what is left of the stage" "$(files "$top/stage")" ""
+    holds "make uninstall, staged" made uninstall PREFIX=/usr DESTDIR="$stage"
+    same "what is left of the stage" "$(files "$stage")" ""
+}
+
+# Folders of other names, and one that no loader knows though the prefix is /usr.
+elsewhere() {
+    local where=(PREFIX=/usr INCLUDEDIR=include/oonjaluvai LIBDIR=/opt/lib DESTDIR="$top/other")
+    holds "make install, elsewhere" made install "${where[@]}"
+    holds "the header elsewhere" test -e "$top/other/usr/include/oonjaluvai/harbour.h"
+    same "what a linker is told elsewhere" "$(sed -n 's/^Libs: //p' "$top/other/opt/lib/pkgconfig/harbour.pc")" \
+        '-L${libdir} -lharbour -Wl,-rpath,${libdir}'
+    holds "make uninstall, elsewhere" made uninstall "${where[@]}"
+    same "what is left elsewhere" "$(files "$top/other")" ""
 }
 
 without_rt=$(path_without_rt)
-if command -v rt > /dev/null; then on_path with_rt "$PATH"; fi
+if command -v "${RT-rt}" > /dev/null; then on_path with_rt "$PATH"; fi
 on_path without_rt "$without_rt"
-said=$(made install PREFIX="$top/again")
+said=$(umask 077 && made install PREFIX="$top/again")
 holds "nothing says that dist/ is used" grep --quiet 'dist/libharbour.a is used' <<< "$said"
+holds "nothing says where pkg-config is to look" grep --quiet "PKG_CONFIG_PATH=$top/again/lib/pkgconfig" <<< "$said"
+same "what others may do with what is installed" "$(modes "$top/again")" "644 755"
 staged
+elsewhere
 told

@@ -20,6 +20,10 @@ command -v sha256sum > /dev/null || wrong "there is no sha256sum to test it with
 cmp --quiet include/harbour.h dist/harbour.h || wrong "its header is not include/harbour.h"
 echo "rt is not found, so nothing is proved here: dist/libharbour.a is used, which was built from proofs:"
 sed 's/^/  /' dist/FROM
-if tree=$(bash package/tree.sh 2> /dev/null) && ! grep --quiet --line-regexp "tree $tree" dist/FROM; then
+if [ ! -e .git ]; then
+    echo "  (whether crates/ is still that tree is not known: this is no checkout of git)"
+elif ! tree=$(bash package/tree.sh 2>&1); then
+    printf '  (whether crates/ is still that tree is not known: %s)\n' "$tree"
+elif ! grep --quiet --line-regexp "tree $tree" dist/FROM; then
     echo "  BUT crates/ is now another tree, $tree: the archive is not built from what stands there"
 fi

@@ -5,10 +5,10 @@ set -euo pipefail
 cd "$(dirname "$0")/.."
 . package/where.sh
 
-# Outside /usr a program that is linked by it has to be told where the library is.
+# A program that is linked by it has to be told where the library is, unless the loader knows in any case.
 pkg_config_file() {
     local rpath=
-    if [ "$prefix" != /usr ]; then rpath=' -Wl,-rpath,${libdir}'; fi
+    if [ $looked_in != always ]; then rpath=' -Wl,-rpath,${libdir}'; fi
     cat << PC
 prefix=$prefix
 includedir=$includedir
@@ -22,6 +22,7 @@ Libs: -L\${libdir} -lharbour$rpath
 PC
 }
 
+umask 022
 mkdir -p "$include" "$lib/pkgconfig"
 install -m 644 include/harbour.h "$include/harbour.h"
 install -m 644 "$1" "$lib/libharbour.a"
@@ -29,10 +30,9 @@ install -m 755 "$2" "$lib/libharbour.so.$version"
 ln -sf "libharbour.so.$version" "$lib/libharbour.so.$major"
 ln -sf "libharbour.so.$major" "$lib/libharbour.so"
 pkg_config_file > "$lib/pkgconfig/harbour.pc"
-chmod 644 "$lib/pkgconfig/harbour.pc"
 tell_loader
 
 echo "harbour $version: $include/harbour.h, $lib/libharbour.a, $lib/libharbour.so.$version, $lib/pkgconfig/harbour.pc"
-if [ -z "$DESTDIR" ] && [ "$prefix" != /usr ] && [ "$prefix" != /usr/local ]; then
+if [ -z "$DESTDIR" ] && [ $looked_in = never ]; then
     echo "pkg-config finds it by PKG_CONFIG_PATH=$libdir/pkgconfig, and Python by LD_LIBRARY_PATH=$libdir"
 fi

@@ -2,29 +2,35 @@
 version=$(cat VERSION)
 major=${version%%.*}
 
-case "$PREFIX $DESTDIR" in
-    '~'* | *' ~'*)
-        echo "a ~ in PREFIX or DESTDIR was not replaced by the shell: \$HOME is" >&2
+case " $PREFIX $INCLUDEDIR $LIBDIR $DESTDIR" in
+    *' ~'*)
+        echo 'a ~ that the shell has not replaced: write $HOME' >&2
         exit 1
         ;;
 esac
 
-whole() {
-    realpath --canonicalize-missing --no-symlinks "$1"
+# Of two parts, the second under the first where it is not whole by itself.
+under() {
+    case $2 in
+        /*) realpath --canonicalize-missing --no-symlinks "$2" ;;
+        *) realpath --canonicalize-missing --no-symlinks "$1/$2" ;;
+    esac
 }
 
-prefix=$(whole "$PREFIX")
-includedir=$(whole "${INCLUDEDIR:-$prefix/include}")
-libdir=$(whole "${LIBDIR:-$prefix/lib}")
+prefix=$(under "$PWD" "${PREFIX:?is empty}")
+includedir=$(under "$prefix" "${INCLUDEDIR:-include}")
+libdir=$(under "$prefix" "${LIBDIR:-lib}")
 include=$DESTDIR$includedir
 lib=$DESTDIR$libdir
 
-# The loader's own list of libraries; it looks nowhere else by itself.
+# Does the loader look there by itself, once it is told that something is new, or not at all?
+case $libdir in
+    /lib | /lib64 | /usr/lib | /usr/lib64 | /lib/*-linux-* | /usr/lib/*-linux-*) looked_in=always ;;
+    /usr/local/lib | /usr/local/lib64) looked_in=when_told ;;
+    *) looked_in=never ;;
+esac
+
 tell_loader() {
-    if [ -n "$DESTDIR" ]; then return; fi
-    case $libdir in
-        /lib | /lib/* | /lib64 | /usr/lib | /usr/lib/* | /usr/lib64 | /usr/local/lib | /usr/local/lib/*)
-            PATH=$PATH:/sbin:/usr/sbin ldconfig 2> /dev/null || true
-            ;;
-    esac
+    if [ -n "$DESTDIR" ] || [ $looked_in = never ]; then return; fi
+    PATH=$PATH:/sbin:/usr/sbin ldconfig 2> /dev/null || true
 }

@@ -34,7 +34,7 @@ _CAUSES = {
     2: "there are more than 64 boats",
     3: "boat {} has no slot, or more than 64",
     4: "there are more than 2,016 pairs",
-    5: "pair {} is not lower boat then higher, names no boat, or is not above the pair before it",
+    5: "pair {} is not lower boat then higher, names a boat that is not there, or is not above the pair before it",
     _ROW_WORDS: "the rows are not, for each pair, one for each slot of its lower boat",
     _ROW_BIT: "row {}, counted over all pairs, has a bit for a slot that the higher boat does not have",
     8: "the plan's memory has fewer bytes than there are boats",

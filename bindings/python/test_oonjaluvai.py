@@ -361,6 +361,7 @@ class Exceptions(Trying):
             self.assertNotIn("\n", told)
             self.assertNotIn("{", told)
             self.assertEqual("47" in told, number in (3, 5, 7, 11))
+        self.assertEqual(str(Refused(12, 47)), "refused, number 12: at place 47")
 
     def test_undecided_is_told_as_undecided(self):
         for allowance in ("checks", "trials"):

@@ -6,10 +6,23 @@
 
 typedef harbour_line say(harbour_reply reply);
 
-static void line_is(say *says, uint64_t answer, uint64_t place, const char *due) {
-    const harbour_reply reply = {answer, place, 12, 345};
+static void says_of(say *says, harbour_reply reply, const char *due) {
     const harbour_line got = says(reply);
     holds(due, got.text, strcmp(got.text, due) == 0);
+}
+
+static void line_is(say *says, uint64_t answer, uint64_t place, const char *due) {
+    const harbour_reply reply = {answer, place, 12, 345};
+    says_of(says, reply, due);
+}
+
+/* The longest lines there are: none is cut. */
+static void largest_numbers(void) {
+    const harbour_reply undecided = {3, 0, UINT64_MAX, UINT64_MAX}, pair = {105, UINT64_MAX, 0, 0};
+    says_of(harbour_say_run, undecided, "undecided after 18446744073709551615 checks and 18446744073709551615 trials: the "
+        "trials allowed are used up, and a plan may exist or not");
+    says_of(harbour_say_examine, pair, "refused, number 5 at pair 18446744073709551615: it is not lower boat first, names "
+        "a boat that is not there, or is not above the pair before");
 }
 
 static void answers(void) {
@@ -36,7 +49,8 @@ static const struct {
     {102, 0, "refused, number 2: there are more than 64 boats"},
     {103, 7, "refused, number 3 at boat 7: it has no slot, or more than 64"},
     {104, 0, "refused, number 4: the pairs have an odd number of bytes, or more than 4032"},
-    {105, 8, "refused, number 5 at pair 8: it is not lower boat first, names no boat, or is not above the pair before"},
+    {105, 8, "refused, number 5 at pair 8: it is not lower boat first, names a boat that is not there, or is not above "
+        "the pair before"},
     {106, 0, "refused, number 6: the rows are too few or too many for the pairs"},
     {107, 9, "refused, number 7 at row word 9: it allows a slot that the higher boat does not have"},
     {108, 0, "refused, number 8: the plan's memory has fewer bytes than there are boats"},
@@ -72,6 +86,7 @@ void lines(void) {
     say *const all[] = {harbour_say_run, harbour_say_examine, harbour_say_lawful, harbour_say_broken};
     answers();
     every_owed();
+    largest_numbers();
     for (size_t k = 0; k < sizeof all / sizeof all[0]; k++) {
         for (size_t at = 0; at < sizeof refused / sizeof refused[0]; at++) {
             line_is(all[k], refused[at].answer, refused[at].place, refused[at].due);
