@@ -60,6 +60,15 @@ from_readme() {
         taken' README.md
 }
 
+# What README.md says that `make run` prints, which is all from the methods on.
+run_in_readme() {
+    sed -n '/^    EVERY METHOD/,/^Two more commands/{/^Two more commands/d; s/^    //; p}' README.md
+}
+
+run_now() {
+    made run | sed -n '/^EVERY METHOD/,$p'
+}
+
 # One program of README.md: its text to a file, its command run, and what it prints held to what README.md says.
 program() {
     local heading=$1 kind=$2 file=$3 command due
@@ -137,6 +146,7 @@ said=$(umask 077 && made install PREFIX="$top/again")
 holds "nothing says that dist/ is used" grep --quiet 'dist/libharbour.a is used' <<< "$said"
 holds "nothing says where pkg-config is to look" grep --quiet "PKG_CONFIG_PATH=$top/again/lib/pkgconfig" <<< "$said"
 same "what others may do with what is installed" "$(modes "$top/again")" "644 755"
+same "what make run prints" "$(run_now)" "$(run_in_readme)"
 staged
 elsewhere
 told
