@@ -1,4 +1,4 @@
-/* The examination in plain C: document 01's numbers 2 to 7. Each search gives the first place at fault, or the end. */
+/* The examination in plain C: numbers 2, 3, 4, 51 to 54, 6 and 7. Each search gives the first place at fault, or the end. */
 #include "plain.h"
 
 static size_t bad_size(const harbour_tables *t)
@@ -25,6 +25,26 @@ static size_t bad_pair(const harbour_tables *t, size_t *words)
     return k;
 }
 
+static harbour_reply found(uint64_t answer, size_t place)
+{
+    return (harbour_reply){ answer, place, 0, 0 };
+}
+
+/* Which way a bad pair is bad. */
+static harbour_reply way_bad(const harbour_tables *t, size_t k)
+{
+    const uint8_t lower = t->pairs[2 * k], higher = t->pairs[2 * k + 1];
+    if (lower >= t->n)
+        return found(HARBOUR_REFUSED_PAIR_NO_BOAT, 2 * k);
+    if (higher >= t->n)
+        return found(HARBOUR_REFUSED_PAIR_NO_BOAT, 2 * k + 1);
+    if (lower == higher)
+        return found(HARBOUR_REFUSED_PAIR_SAME_BOAT, 2 * k + 1);
+    if (lower > higher)
+        return found(HARBOUR_REFUSED_PAIR_HIGHER_FIRST, 2 * k);
+    return found(HARBOUR_REFUSED_PAIR_NOT_RISING, 2 * k);
+}
+
 /* A pair's words are joined, so that only a pair at fault is gone through word by word. */
 static size_t bad_word(const harbour_tables *t)
 {
@@ -45,11 +65,6 @@ static size_t bad_word(const harbour_tables *t)
     return from;
 }
 
-static harbour_reply found(uint64_t answer, size_t place)
-{
-    return (harbour_reply){ answer, place, 0, 0 };
-}
-
 harbour_reply plain_examine(const harbour_tables *t)
 {
     size_t place, words = 0;
@@ -60,7 +75,7 @@ harbour_reply plain_examine(const harbour_tables *t)
     if (t->pair_bytes % 2 || t->pair_bytes > 2 * HARBOUR_PAIRS)
         return found(HARBOUR_REFUSED_PAIR_BYTES, 0);
     if ((place = bad_pair(t, &words)) < t->pair_bytes / 2)
-        return found(HARBOUR_REFUSED_PAIR, place);
+        return way_bad(t, place);
     if (words != t->row_words)
         return found(HARBOUR_REFUSED_ROW_WORDS, 0);
     if ((place = bad_word(t)) < words)

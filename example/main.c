@@ -1,4 +1,4 @@
-/* Tonight's harbour planned under every method, then the three answers that are no plan. */
+/* Tonight's harbour planned under every method, then the three answers that are no plan: a refusal in four ways. */
 #include <inttypes.h>
 #include <stdio.h>
 
@@ -42,18 +42,27 @@ static int too_many_boats(void) {
     return answered(HARBOUR_CBJ, HARBOUR_AMPLE, HARBOUR_NO_PLAN);
 }
 
-static int a_pair_turned(void) {
+/* The pair of Heron and Osprey, bytes 2 and 3, as a tired clerk writes it. */
+static int a_slip_of_the_pen(const char *slip, uint8_t first, uint8_t second, uint64_t due) {
     make_problem(&made, &fuel_pier);
-    made.draft.pairs[2] = 2;
-    made.draft.pairs[3] = 0;
-    puts("\nTHE FUEL PIER, with one pair written down the wrong way round");
-    return answered(HARBOUR_CBJ, HARBOUR_AMPLE, HARBOUR_REFUSED_PAIR);
+    made.draft.pairs[2] = first;
+    made.draft.pairs[3] = second;
+    printf("\nTHE FUEL PIER, with %s\n", slip);
+    return answered(HARBOUR_CBJ, HARBOUR_AMPLE, due);
+}
+
+static int four_slips_of_the_pen(void) {
+    int as_promised = a_slip_of_the_pen("a pair of a fourth boat", 0, 3, HARBOUR_REFUSED_PAIR_NO_BOAT);
+    as_promised &= a_slip_of_the_pen("a pair of one boat", 0, 0, HARBOUR_REFUSED_PAIR_SAME_BOAT);
+    as_promised &= a_slip_of_the_pen("a pair the wrong way round", 2, 0, HARBOUR_REFUSED_PAIR_HIGHER_FIRST);
+    as_promised &= a_slip_of_the_pen("a pair written twice", 0, 1, HARBOUR_REFUSED_PAIR_NOT_RISING);
+    return as_promised;
 }
 
 int main(void) {
     int as_promised = plan_tonight();
     as_promised &= run_out_of_checks();
     as_promised &= too_many_boats();
-    as_promised &= a_pair_turned();
+    as_promised &= four_slips_of_the_pen();
     return as_promised ? 0 : 1;
 }

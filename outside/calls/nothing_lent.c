@@ -40,7 +40,7 @@ static void questions(void) {
     static const uint64_t row[] = {1};
     replied("NULL for all", harbour_examine(NULL, 0, NULL, 0, NULL, 0), HARBOUR_FINE, 0);
     replied("NULL for pairs and rows", harbour_examine(one, 1, NULL, 0, NULL, 0), HARBOUR_FINE, 0);
-    replied("NULL for sizes", harbour_examine(NULL, 0, pair, 2, row, 1), HARBOUR_REFUSED_PAIR, 0);
+    replied("NULL for sizes", harbour_examine(NULL, 0, pair, 2, row, 1), HARBOUR_REFUSED_PAIR_NO_BOAT, 0);
     replied("NULL for sizes and pairs", harbour_examine(NULL, 0, NULL, 0, row, 1), HARBOUR_REFUSED_ROW_WORDS, 0);
     replied("NULL for all", harbour_lawful(NULL, 0, NULL, 0, NULL, 0, NULL, 0), HARBOUR_LAWFUL, 0);
     replied("NULL for all", harbour_broken(NULL, 0, NULL, 0, NULL, 0, NULL, 0), HARBOUR_UNBROKEN, 0);

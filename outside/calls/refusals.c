@@ -2,6 +2,8 @@
 #include "calls.h"
 #include "harbours.h"
 
+#include <string.h>
+
 static void solved_by_all(const char *what, const harbour_tables *given, uint64_t checks) {
     static const uint8_t first[HARBOUR_BOATS] = {0};
     for (uint64_t method = HARBOUR_BT; method <= HARBOUR_FC_CBJ; method++) {
@@ -56,25 +58,81 @@ static void pair_bytes(void) {
     }
 }
 
-/* In a harbour of three boats the second pair is wrong, and the third as well. */
+/* Two pairs of three boats, of which the second is wrong, with its due answer; the pair after them is wrong too. */
+typedef struct {
+    uint8_t pairs[4];
+    uint64_t answer, place;
+} second_wrong;
+
+static const second_wrong seconds[] = {
+    {{0, 1, 3, 2}, HARBOUR_REFUSED_PAIR_NO_BOAT, 2}, {{0, 1, 1, 3}, HARBOUR_REFUSED_PAIR_NO_BOAT, 3},
+    {{0, 1, 3, 4}, HARBOUR_REFUSED_PAIR_NO_BOAT, 2}, {{0, 1, 255, 255}, HARBOUR_REFUSED_PAIR_NO_BOAT, 2},
+    {{1, 2, 0, 64}, HARBOUR_REFUSED_PAIR_NO_BOAT, 3}, {{0, 1, 255, 0}, HARBOUR_REFUSED_PAIR_NO_BOAT, 2},
+    {{0, 1, 1, 1}, HARBOUR_REFUSED_PAIR_SAME_BOAT, 3}, {{1, 2, 0, 0}, HARBOUR_REFUSED_PAIR_SAME_BOAT, 3},
+    {{0, 1, 2, 1}, HARBOUR_REFUSED_PAIR_HIGHER_FIRST, 2}, {{1, 2, 1, 0}, HARBOUR_REFUSED_PAIR_HIGHER_FIRST, 2},
+    {{0, 1, 0, 1}, HARBOUR_REFUSED_PAIR_NOT_RISING, 2}, {{0, 2, 0, 1}, HARBOUR_REFUSED_PAIR_NOT_RISING, 2},
+    {{1, 2, 0, 2}, HARBOUR_REFUSED_PAIR_NOT_RISING, 2}, {{1, 2, 0, 1}, HARBOUR_REFUSED_PAIR_NOT_RISING, 2},
+};
+
+static void second_pairs(harbour_tables given) {
+    static const uint8_t thirds[][2] = {{9, 0}, {0, 9}, {9, 9}, {2, 2}, {2, 0}, {0, 1}};
+    uint8_t pairs[6];
+    given.pairs = pairs;
+    given.pair_bytes = 6;
+    for (size_t at = 0; at < LENGTH(seconds); at++) {
+        for (size_t third = 0; third < LENGTH(thirds); third++) {
+            memcpy(pairs, seconds[at].pairs, 4);
+            memcpy(pairs + 4, thirds[third], 2);
+            refused_by_all("the second pair wrong", &given, seconds[at].answer, seconds[at].place);
+        }
+    }
+}
+
+static void first_pairs(harbour_tables given) {
+    static const struct {
+        uint8_t pair[2];
+        uint64_t answer, place;
+    } wrong[] = {
+        {{3, 0}, HARBOUR_REFUSED_PAIR_NO_BOAT, 0}, {{0, 3}, HARBOUR_REFUSED_PAIR_NO_BOAT, 1},
+        {{3, 4}, HARBOUR_REFUSED_PAIR_NO_BOAT, 0}, {{64, 65}, HARBOUR_REFUSED_PAIR_NO_BOAT, 0},
+        {{0, 64}, HARBOUR_REFUSED_PAIR_NO_BOAT, 1}, {{2, 255}, HARBOUR_REFUSED_PAIR_NO_BOAT, 1},
+        {{255, 255}, HARBOUR_REFUSED_PAIR_NO_BOAT, 0}, {{0, 0}, HARBOUR_REFUSED_PAIR_SAME_BOAT, 1},
+        {{2, 2}, HARBOUR_REFUSED_PAIR_SAME_BOAT, 1}, {{1, 0}, HARBOUR_REFUSED_PAIR_HIGHER_FIRST, 0},
+        {{2, 1}, HARBOUR_REFUSED_PAIR_HIGHER_FIRST, 0},
+    };
+    given.pair_bytes = 2;
+    for (size_t at = 0; at < LENGTH(wrong); at++) {
+        given.pairs = wrong[at].pair;
+        refused_by_all("the first pair wrong", &given, wrong[at].answer, wrong[at].place);
+    }
+}
+
+/* The last of all pairs of 64 boats: the highest bytes that a place can be. */
+static void last_pairs(void) {
+    uint8_t pairs[2 * HARBOUR_PAIRS];
+    harbour_tables given = crowd(64, sizeof pairs, HARBOUR_PAIRS);
+    memcpy(pairs, given.pairs, sizeof pairs);
+    uint8_t *const last = pairs + sizeof pairs - 2;
+    given.pairs = pairs;
+    last[1] = 64;
+    refused_by_all("the last pair wrong", &given, HARBOUR_REFUSED_PAIR_NO_BOAT, 4031);
+    last[1] = 62;
+    refused_by_all("the last pair wrong", &given, HARBOUR_REFUSED_PAIR_SAME_BOAT, 4031);
+    last[1] = 61;
+    refused_by_all("the last pair wrong", &given, HARBOUR_REFUSED_PAIR_HIGHER_FIRST, 4030);
+    last[0] = 61;
+    last[1] = 63;
+    refused_by_all("the last pair wrong", &given, HARBOUR_REFUSED_PAIR_NOT_RISING, 4030);
+}
+
 static void pairs(void) {
-    const uint8_t wrong[][6] = {{0, 1, 1, 1, 3, 3}, {0, 1, 2, 1, 0, 0}, {0, 1, 1, 3, 9, 1}, {0, 1, 3, 4, 0, 1},
-        {0, 1, 255, 255, 0, 1}, {0, 1, 0, 1, 0, 1}, {0, 2, 0, 1, 0, 1}, {1, 2, 0, 2, 0, 1}};
-    const uint8_t wrong_first[][2] = {{0, 0}, {1, 0}, {0, 3}, {3, 0}, {3, 4}, {0, 64}, {64, 65}, {0, 255}, {255, 255}};
-    const uint64_t rows[] = {1, 1, 1};
+    static const uint64_t rows[] = {1, 1, 1};
     harbour_tables given = lone_boats(3, 1);
     given.rows = rows;
     given.row_words = 3;
-    given.pair_bytes = 6;
-    for (size_t at = 0; at < LENGTH(wrong); at++) {
-        given.pairs = wrong[at];
-        refused_by_all("the second pair wrong", &given, HARBOUR_REFUSED_PAIR, 1);
-    }
-    given.pair_bytes = 2;
-    for (size_t at = 0; at < LENGTH(wrong_first); at++) {
-        given.pairs = wrong_first[at];
-        refused_by_all("the first pair wrong", &given, HARBOUR_REFUSED_PAIR, 0);
-    }
+    second_pairs(given);
+    first_pairs(given);
+    last_pairs();
 }
 
 static void row_words(void) {

@@ -5,23 +5,26 @@ use native.Mathlib.Omega.{arith}
 use borrow.Author.Tests.{ne-eqb}
 use Rattle.problem.specs.Replies.{refusalNumber, refusalPlace, refusalTold}
 use Rattle.problem.specs.declared.Refusal.{Refusal}
-use Rattle.problem.specs.declared.Refusal.the-variants.{Method, Boats, Size, PairBytes, Pair, RowWords, RowBit, PlanMemory, WorkMemory, GivenLength, GivenSlot}
+use Rattle.problem.specs.declared.Refusal.the-variants.{Method, Boats, Size, PairBytes, PairNoBoat, PairSameBoat, PairHigherFirst, PairNotRising, RowWords, RowBit, PlanMemory, WorkMemory, GivenLength, GivenSlot}
 use Rattle.handing.specs.declared.HarbourReply.{HarbourReply}
 use Rattle.handing.specs.Handed.{handed, fineOrRefused}
 
--- there are eleven numbers
-pub eleven : (why : Refusal) → refusalNumber why ≤ 11
-eleven Method = omega arith
-eleven Boats = omega arith
-eleven (Size boat) = omega arith
-eleven PairBytes = omega arith
-eleven (Pair pair) = omega arith
-eleven RowWords = omega arith
-eleven (RowBit word) = omega arith
-eleven PlanMemory = omega arith
-eleven WorkMemory = omega arith
-eleven GivenLength = omega arith
-eleven (GivenSlot boat) = omega arith
+-- the largest number is 54, so that 100 can be added
+pub number-small : (why : Refusal) → refusalNumber why ≤ 54
+number-small Method = omega arith
+number-small Boats = omega arith
+number-small (Size boat) = omega arith
+number-small PairBytes = omega arith
+number-small (PairNoBoat byte) = omega arith
+number-small (PairSameBoat byte) = omega arith
+number-small (PairHigherFirst byte) = omega arith
+number-small (PairNotRising byte) = omega arith
+number-small RowWords = omega arith
+number-small (RowBit word) = omega arith
+number-small PlanMemory = omega arith
+number-small WorkMemory = omega arith
+number-small GivenLength = omega arith
+number-small (GivenSlot boat) = omega arith
 
 -- a refusal by its number and place
 pub refusal-handed : (why : Refusal) (r : HarbourReply) (number place checks trials : ℕ) → number ≡ refusalNumber why → place ≡ refusalPlace why →

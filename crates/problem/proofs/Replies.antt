@@ -5,7 +5,7 @@ use Prim.Native.Nat.{ℕ, _-_, _≤_}
 use native.Mathlib.Omega.{arith}
 use lib.ListN.{length, getD, List·getD-eq-default}
 use Rattle.problem.specs.declared.Refusal.{Refusal}
-use Rattle.problem.specs.declared.Refusal.the-variants.{Method, Boats, Size, PairBytes, Pair, RowWords, RowBit, PlanMemory, WorkMemory, GivenLength, GivenSlot}
+use Rattle.problem.specs.declared.Refusal.the-variants.{Method, Boats, Size, PairBytes, PairNoBoat, PairSameBoat, PairHigherFirst, PairNotRising, RowWords, RowBit, PlanMemory, WorkMemory, GivenLength, GivenSlot}
 use Rattle.problem.specs.declared.Allowance.the-variants.{Checks, Trials}
 use Rattle.problem.specs.declared.Answer.{Answer}
 use Rattle.problem.specs.declared.Answer.the-variants.{Solved, NoPlan, Undecided, Refused}
@@ -16,23 +16,27 @@ read-back tell back is x y e = sym (is x) ∙ ap back e ∙ is y
 
 -- ---- a refusal
 refusalOf : ℕ → ℕ → Refusal
-refusalOf number place =
-    getD
-    (Method
-    ∷ Method
-    ∷ Boats
-    ∷ Size place
-    ∷ PairBytes
-    ∷ Pair place
-    ∷ RowWords
-    ∷ RowBit place
-    ∷ PlanMemory
-    ∷ WorkMemory
-    ∷ GivenLength
-    ∷ GivenSlot place
-    ∷ [])
-    number
-    Method
+refusalOf number place = getD to11 number (getD from51 (number - 51) Method)
+  where
+    -- no refusal has 0 or 5
+    to11 : List Refusal
+    to11 =
+        Method
+        ∷ Method
+        ∷ Boats
+        ∷ Size place
+        ∷ PairBytes
+        ∷ Method
+        ∷ RowWords
+        ∷ RowBit place
+        ∷ PlanMemory
+        ∷ WorkMemory
+        ∷ GivenLength
+        ∷ GivenSlot place
+        ∷ []
+
+    from51 : List Refusal
+    from51 = PairNoBoat place ∷ PairSameBoat place ∷ PairHigherFirst place ∷ PairNotRising place ∷ []
 
 pub toldRefusal : Told → Refusal
 toldRefusal w = refusalOf (w .number - 100) (getD (w .values) 0 0)
@@ -43,7 +47,10 @@ refusal-back Method = refl
 refusal-back Boats = refl
 refusal-back (Size boat) = refl
 refusal-back PairBytes = refl
-refusal-back (Pair pair) = refl
+refusal-back (PairNoBoat byte) = refl
+refusal-back (PairSameBoat byte) = refl
+refusal-back (PairHigherFirst byte) = refl
+refusal-back (PairNotRising byte) = refl
 refusal-back RowWords = refl
 refusal-back (RowBit word) = refl
 refusal-back PlanMemory = refl

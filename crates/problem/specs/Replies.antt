@@ -1,8 +1,8 @@
--- What each reply says on paper: the number and the values that documents 01 and 02 give it. (Document 01, 'Numbers given back'.)
+-- What each reply says on paper: the number and the values that documents 01 and 02 give it. (Document 01, 'Numbers given back'; document 02, No. 1.)
 use mathlib.Core.List.{List, [], _∷_}
 use Prim.Native.Nat.{ℕ, _+_}
 use Rattle.problem.specs.declared.Refusal.{Refusal}
-use Rattle.problem.specs.declared.Refusal.the-variants.{Method, Boats, Size, PairBytes, Pair, RowWords, RowBit, PlanMemory, WorkMemory, GivenLength, GivenSlot}
+use Rattle.problem.specs.declared.Refusal.the-variants.{Method, Boats, Size, PairBytes, PairNoBoat, PairSameBoat, PairHigherFirst, PairNotRising, RowWords, RowBit, PlanMemory, WorkMemory, GivenLength, GivenSlot}
 use Rattle.problem.specs.declared.Allowance.the-variants.{Checks, Trials}
 use Rattle.problem.specs.declared.Answer.{Answer}
 use Rattle.problem.specs.declared.Answer.the-variants.{Solved, NoPlan, Undecided, Refused}
@@ -13,7 +13,10 @@ refusalNumber Method = 1
 refusalNumber Boats = 2
 refusalNumber (Size boat) = 3
 refusalNumber PairBytes = 4
-refusalNumber (Pair pair) = 5
+refusalNumber (PairNoBoat byte) = 51
+refusalNumber (PairSameBoat byte) = 52
+refusalNumber (PairHigherFirst byte) = 53
+refusalNumber (PairNotRising byte) = 54
 refusalNumber RowWords = 6
 refusalNumber (RowBit word) = 7
 refusalNumber PlanMemory = 8
@@ -26,7 +29,10 @@ refusalPlace Method = 0
 refusalPlace Boats = 0
 refusalPlace (Size boat) = boat
 refusalPlace PairBytes = 0
-refusalPlace (Pair pair) = pair
+refusalPlace (PairNoBoat byte) = byte
+refusalPlace (PairSameBoat byte) = byte
+refusalPlace (PairHigherFirst byte) = byte
+refusalPlace (PairNotRising byte) = byte
 refusalPlace RowWords = 0
 refusalPlace (RowBit word) = word
 refusalPlace PlanMemory = 0

@@ -99,6 +99,6 @@ module _ (t : Tables) (given : List ℕ) {v : Told} (says : v ≡ brokenQuestion
   answered-alike b k is =
       let o = pairOrNone (someBroken t given) (broken t given) in
       let e : pairOrNone b k ≡ brokenQuestion t given = sym is ∙ says in
-      let n = small-none (givenTests t given) o (omega arith) (omega (arith, small b k, ap (λ x. x .number) e)) in
+      let n = small-none (givenTests t given) o (omega (arith, small b k, ap (λ x. x .number) e)) in
       ap yesOrNo (same b (someBroken t given) k (broken t given) (ap (λ x. x .number) (e ∙ none-fine (givenTests t given) o n)))
       ∙ sym (none-fine (givenTests t given) (yesOrNo (someBroken t given)) n)

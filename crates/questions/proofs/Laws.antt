@@ -62,7 +62,7 @@ module _ (t : Tables) (given : List ℕ) where
   module _ (answer : Bool → Told) where
     zero-lawful : (answer true .number ≡ 0 → ⊥) → firstOf (givenTests t given) (answer (someBroken t given)) .number ≡ 0 → Lawful t given
     zero-lawful some e =
-        let n = small-none (givenTests t given) (answer (someBroken t given)) (omega arith) (omega arith) in
+        let n = small-none (givenTests t given) (answer (someBroken t given)) (omega arith) in
         given-lawful n (by (someBroken t given) (rw (none-fine (givenTests t given) (answer (someBroken t given)) n) at e))
       where
         by : (b : Bool) → answer b .number ≡ 0 → b ≡ false

@@ -1,4 +1,4 @@
--- The refusals of a run, as the code comes to them: 1, then 2 to 7, then 8 and 9 of the lent memory.
+-- The refusals of a run, as the code comes to them: 1, then the examination's, then 8 and 9 of the lent memory.
 use mathlib.Core.Path.{_≡_, refl, sym, ap, _∙_, subst}
 use mathlib.Core.Bool.{Bool, true, false}
 use mathlib.Core.List.{List, [], _∷_, _++_}
@@ -89,7 +89,7 @@ module _ (chosen : Method) (t : Tables) (plan work : List ℕ) (checks trials : 
   unfolding lentResult
   lent-finished e = ap (λ (x : Told). left x (eqb (x .number) 0)) e
 
--- ---- before it: 1, then 2 to 7
+-- ---- before it: 1, then the examination's
 module _ (method : ℕ) (t : Tables) (planBytes workWords : ℕ) where
   abbrev memory : List Test
   memory = lentTests t planBytes workWords
@@ -103,9 +103,9 @@ module _ (method : ℕ) (t : Tables) (planBytes workWords : ℕ) where
     unfolding refusalOfRun
     past-1 = once-passes 1 (notOneToFive method) (tests t ++ memory) (told 0 []) (known-passes method chosen known)
 
-    pub says-2-to-7 : {w : Told} → w ≡ examination t → 100 ≤ w .number → refusalOfRun method t planBytes workWords ≡ w
+    pub says-examined : {w : Told} → w ≡ examination t → 100 ≤ w .number → refusalOfRun method t planBytes workWords ≡ w
     unfolding examination
-    says-2-to-7 {w} e l =
+    says-examined {w} e l =
         past-1
         ∙ gives-first (tests t ++ memory) (told 0 []) w
         (gives-before (tests t) memory w (subst (Gives (tests t)) (sym e) (large-gives (tests t) _ (omega arith) (omega (arith, ap (λ x. x .number) e)))))

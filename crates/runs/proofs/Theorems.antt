@@ -47,7 +47,7 @@ module _ (method : ℕ) (t : Tables) (plan work : List ℕ) (checks trials : ℕ
   -- the first test that applies speaks, at its lowest place; the counts are 0 and nothing lent has changed
   pub run-refuses-first : (why : Told) → Gives all why → reply ≡ refusedResult why plan work
   unfolding refusalOfRun
-  run-refuses-first why g = result-refused method t plan work checks trials (gives-first all (told 0 []) why g) (gives-refused all why g (omega arith))
+  run-refuses-first why g = result-refused method t plan work checks trials (gives-first all (told 0 []) why g) (gives-refused all why g)
 
   -- where none applies the method's search is made, cut by the allowances
   pub run-searches : NoneApplies all → (chosen : Method) → methodOf method ≡ Found chosen → reply ≡ finishedResult (cut checks trials (searchBy chosen t)) plan work
@@ -69,7 +69,7 @@ module _ (method : ℕ) (t : Tables) (plan work : List ℕ) (checks trials : ℕ
 
   -- and where a run is not refused no test applies
   pub run-unrefused-no-cause : reply .answer .number < 100 → NoneApplies all
-  run-unrefused-no-cause l = ⊎-elim (λ n. n) (λ g. absurd (omega (arith, gives-refused all (reply .answer) g (omega arith)))) one-or-none
+  run-unrefused-no-cause l = ⊎-elim (λ n. n) (λ g. absurd (omega (arith, gives-refused all (reply .answer) g))) one-or-none
 
   -- a refusal has counts 0 and changes no lent memory
   pub run-refusal-changes-nothing : 100 ≤ reply .answer .number → reply ≡ refusedResult (reply .answer) plan work

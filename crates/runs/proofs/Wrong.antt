@@ -11,7 +11,7 @@ use Rattle.problem.specs.declared.Method.{Method}
 use Rattle.problem.specs.declared.Method.the-variants.{Bt, Cbj, Bm, Fc, FcCbj}
 use Rattle.problem.specs.declared.MethodFound.the-variants.{Found}
 use Rattle.tables.specs.Tests.{firstOf}
-use Rattle.tables.specs.Examination.{badPair, badWord, pairOfWord, examination, Fine}
+use Rattle.tables.specs.Examination.{wayBad, badWord, pairOfWord, examination, Fine}
 use Rattle.events.specs.Events.{noPlan}
 use Rattle.events.specs.Allowances.{Outcome, outcome, decided, cut}
 use Rattle.methods.specs.Methods.{searchBy}
@@ -22,11 +22,11 @@ use Rattle.runs.specs.Runs.{Result, finishedResult, runResult}
 use Rattle.runs.proofs.Accepting.{searches}
 
 fineD : Fine D
-unfolding examination firstOf lowest lowestFrom start sum badPair badWord pairOfWord
+unfolding examination firstOf lowest lowestFrom start sum wayBad badWord pairOfWord
 fineD = refl
 
 fineE : Fine E
-unfolding examination firstOf lowest lowestFrom start sum badPair badWord pairOfWord
+unfolding examination firstOf lowest lowestFrom start sum wayBad badWord pairOfWord
 fineE = refl
 
 -- memory as a caller lends it: three plan bytes of 255, and words enough

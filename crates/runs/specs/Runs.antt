@@ -19,7 +19,7 @@ use Rattle.events.specs.Allowances.{Decision, decided, undecided, Outcome, cut}
 use Rattle.methods.specs.Methods.{searchBy}
 use Rattle.words.specs.Layout.{zeroed}
 
--- ---- what is refused: 1, then the examination's 2 to 7, then 8 and 9
+-- ---- what is refused: 1, then the examination's, then 8 and 9
 abbrev pub notOneToFive : ℕ → Bool
 notOneToFive method = eqb method 0 || ltb 5 method
 

@@ -9,37 +9,41 @@ use borrow.Author.Tests.{lt-ltb, le-ltb, eq-eqb, ne-eqb}
 use lib.ListN.{length}
 use Rattle.problem.specs.Lowest.{lowest}
 use Rattle.problem.specs.Tables.{Tables, boats, listed, lower, higher, start}
-use Rattle.problem.specs.Replies.{Told, told, refused}
+use Rattle.problem.specs.Replies.{Told, told, refused, refusalTold}
+use Rattle.problem.specs.declared.Refusal.{Refusal}
 use Rattle.problem.proofs.Lowest.{lowest-here, lowest-none, none-lowest}
-use Rattle.tables.specs.Tests.{Test, once, each, firstOf}
+use Rattle.tables.specs.declared.pairs.Way.the-variants.{Good, Bad}
+use Rattle.tables.specs.Tests.{says, Test, once, each, eachWay, found, firstOf}
 use Rattle.tables.specs.Applies.{Fails}
-use Rattle.tables.specs.Examination.{tooManyBoats, badSize, badPairBytes, badPair, badRowWords, badWord, examination}
+use Rattle.tables.specs.Examination.{tooManyBoats, badSize, badPairBytes, wayBad, badRowWords, badWord, examination}
 use Rattle.tables.specs.Framed.{Framed}
+use Rattle.tables.specs.Ways.{IsFirst}
 use Rattle.tables.proofs.Bools.{fails-not, passes-not}
-use Rattle.tables.proofs.Causes.{good-size, good-bytes, good-pair}
+use Rattle.tables.proofs.Causes.{good-size, good-bytes}
+use Rattle.tables.proofs.Ways.{good-pair}
 
 -- ---- a list of tests
 module _ (test : Test) (rest : List Test) (o : Told) where
-  pub applies : lowest (test .places) (test .cause) < test .places → firstOf (test ∷ rest) o ≡ test .says (lowest (test .places) (test .cause))
+  pub applies : found test < test .places → firstOf (test ∷ rest) o ≡ says (test .at (found test))
   unfolding firstOf
   applies l =
-      ap (λ (b : Bool). elim b as (λ x. Told) [ true ↦ test .says (lowest (test .places) (test .cause)) | false ↦ firstOf rest o ])
-      (lt-ltb (lowest (test .places) (test .cause)) (test .places) l)
+      ap (λ (b : Bool). elim b as (λ x. Told) [ true ↦ says (test .at (found test)) | false ↦ firstOf rest o ])
+      (lt-ltb (found test) (test .places) l)
 
-  pub passes : test .places ≤ lowest (test .places) (test .cause) → firstOf (test ∷ rest) o ≡ firstOf rest o
+  pub passes : test .places ≤ found test → firstOf (test ∷ rest) o ≡ firstOf rest o
   unfolding firstOf
   passes l =
-      ap (λ (b : Bool). elim b as (λ x. Told) [ true ↦ test .says (lowest (test .places) (test .cause)) | false ↦ firstOf rest o ])
-      (le-ltb (lowest (test .places) (test .cause)) (test .places) l)
+      ap (λ (b : Bool). elim b as (λ x. Told) [ true ↦ says (test .at (found test)) | false ↦ firstOf rest o ])
+      (le-ltb (found test) (test .places) l)
 
   pub fails-passes : Fails test → firstOf (test ∷ rest) o ≡ firstOf rest o
-  fails-passes f = passes (omega (arith, lowest-none (test .places) (test .cause) f))
+  fails-passes f = passes (omega (arith, lowest-none (test .places) (λ k. test .at k .cause) f))
 
 module _ (number : ℕ) (cause : Bool) (rest : List Test) (o : Told) where
   pub once-applies : cause ≡ true → firstOf (once number cause ∷ rest) o ≡ refused number 0
   once-applies e =
       let q = lowest-here 1 (λ k. cause) 0 (omega arith) (λ j h. absurd (omega arith)) e in
-      applies (once number cause) rest o (omega (arith, q)) ∙ ap (refused number) q
+      applies (once number cause) rest o (omega (arith, q))
 
   pub once-passes : cause ≡ false → firstOf (once number cause ∷ rest) o ≡ firstOf rest o
   once-passes e = fails-passes (once number cause) rest o (λ k h. e)
@@ -51,11 +55,14 @@ from7 t = each 7 (length (t .rows)) (badWord t) ∷ []
 abbrev from6 : Tables → List Test
 from6 t = once 6 (badRowWords t) ∷ from7 t
 
-abbrev from5 : Tables → List Test
-from5 t = each 5 (listed (t .pairs)) (badPair (boats t) (t .pairs)) ∷ from6 t
+abbrev pub pairTest : Tables → Test
+pairTest t = eachWay (listed (t .pairs)) (wayBad (boats t) (t .pairs))
+
+abbrev from51 : Tables → List Test
+from51 t = pairTest t ∷ from6 t
 
 abbrev from4 : Tables → List Test
-from4 t = once 4 (badPairBytes (t .pairs)) ∷ from5 t
+from4 t = once 4 (badPairBytes (t .pairs)) ∷ from51 t
 
 abbrev from3 : Tables → List Test
 from3 t = each 3 (boats t) (badSize (t .sizes)) ∷ from4 t
@@ -86,25 +93,22 @@ module _ (t : Tables) where
         past-3 = sym (passes (each 3 (boats t) (badSize (t .sizes))) (from4 t) (outcome t) (omega arith)) ∙ past-2
 
         pub examined-4 : {odd : Bool} → odd ≡ badPairBytes (t .pairs) → odd ≡ true → refused 4 0 ≡ examination t
-        examined-4 is-odd e = sym (once-applies 4 (badPairBytes (t .pairs)) (from5 t) (outcome t) (sym is-odd ∙ e)) ∙ past-3
+        examined-4 is-odd e = sym (once-applies 4 (badPairBytes (t .pairs)) (from51 t) (outcome t) (sym is-odd ∙ e)) ∙ past-3
 
-        module _ {odd : Bool} (is-odd : odd ≡ badPairBytes (t .pairs)) (even : odd ≡ false) {pair : ℕ} (is-pair : pair ≡ lowest (listed (t .pairs)) (badPair (boats t) (t .pairs))) where
-          past-4 : firstOf (from5 t) (outcome t) ≡ examination t
-          past-4 = sym (once-passes 4 (badPairBytes (t .pairs)) (from5 t) (outcome t) (sym is-odd ∙ even)) ∙ past-3
+        module _ {odd : Bool} (is-odd : odd ≡ badPairBytes (t .pairs)) (even : odd ≡ false) where
+          past-4 : firstOf (from51 t) (outcome t) ≡ examination t
+          past-4 = sym (once-passes 4 (badPairBytes (t .pairs)) (from51 t) (outcome t) (sym is-odd ∙ even)) ∙ past-3
 
-          pub examined-5 : pair < listed (t .pairs) → refused 5 pair ≡ examination t
-          examined-5 l =
-              ap (refused 5) is-pair
-              ∙ sym (applies (each 5 (listed (t .pairs)) (badPair (boats t) (t .pairs))) (from6 t) (outcome t) (omega arith))
-              ∙ past-4
+          pub examined-51 : (why : Refusal) → IsFirst (Bad why) (pairTest t) → refusalTold why ≡ examination t
+          examined-51 why is = is .1 ∙ sym (applies (pairTest t) (from6 t) (outcome t) (is .0)) ∙ past-4
 
-          module _ (paired : listed (t .pairs) ≤ pair) where
-            past-5 : firstOf (from6 t) (outcome t) ≡ examination t
-            past-5 = sym (passes (each 5 (listed (t .pairs)) (badPair (boats t) (t .pairs))) (from6 t) (outcome t) (omega arith)) ∙ past-4
+          module _ (paired : IsFirst Good (pairTest t)) where
+            past-51 : firstOf (from6 t) (outcome t) ≡ examination t
+            past-51 = sym (passes (pairTest t) (from6 t) (outcome t) paired) ∙ past-4
 
             good : (k : ℕ) → k < listed (t .pairs) → (lower (t .pairs) k < boats t) × (higher (t .pairs) k < boats t)
             good k l =
-                let q = good-pair (boats t) (t .pairs) k (none-lowest (listed (t .pairs)) (badPair (boats t) (t .pairs)) (omega arith) k l) in
+                let q = good-pair (boats t) (t .pairs) k (none-lowest (listed (t .pairs)) (λ j. wayBad (boats t) (t .pairs) j .cause) paired k l) in
                 (omega arith, q .1)
 
             -- what the sum of the row words asks
@@ -115,7 +119,7 @@ module _ (t : Tables) where
             module _ {words : ℕ} (is-words : words ≡ start (t .sizes) (t .pairs) (listed (t .pairs))) where
               pub examined-6 : (length (t .rows) ≡ words → ⊥) → refused 6 0 ≡ examination t
               examined-6 n =
-                  sym (once-applies 6 (badRowWords t) (from7 t) (outcome t) (fails-not _ (ne-eqb _ _ (λ e. n (e ∙ sym is-words))))) ∙ past-5
+                  sym (once-applies 6 (badRowWords t) (from7 t) (outcome t) (fails-not _ (ne-eqb _ _ (λ e. n (e ∙ sym is-words))))) ∙ past-51
 
             module _ {words : ℕ} (is-words : words ≡ start (t .sizes) (t .pairs) (listed (t .pairs))) (whole : length (t .rows) ≡ words) where
               -- what the walk of the words asks
@@ -129,7 +133,7 @@ module _ (t : Tables) where
 
               module _ {word : ℕ} (is-word : word ≡ lowest (length (t .rows)) (badWord t)) where
                 past-6 : firstOf (from7 t) (outcome t) ≡ examination t
-                past-6 = sym (once-passes 6 (badRowWords t) (from7 t) (outcome t) (passes-not _ (eq-eqb _ _ (whole ∙ is-words)))) ∙ past-5
+                past-6 = sym (once-passes 6 (badRowWords t) (from7 t) (outcome t) (passes-not _ (eq-eqb _ _ (whole ∙ is-words)))) ∙ past-51
 
                 pub examined-7 : word < length (t .rows) → refused 7 word ≡ examination t
                 examined-7 l = ap (refused 7) is-word ∙ sym (applies (each 7 (length (t .rows)) (badWord t)) [] (outcome t) (omega arith)) ∙ past-6

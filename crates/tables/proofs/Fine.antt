@@ -1,5 +1,5 @@
 -- The examination says fine of exactly the tables that keep every rule.
-use mathlib.Core.Path.{_≡_, _∙_}
+use mathlib.Core.Path.{_≡_}
 use mathlib.Core.List.{[], _∷_}
 use native.Mathlib.Omega.{arith}
 use borrow.Author.Tests.{ltb-false, eqb-true, not-false, le-ltb, eq-eqb}
@@ -10,7 +10,8 @@ use Rattle.problem.specs.Replies.{told}
 use Rattle.tables.specs.Applies.{NoneApplies, none, nor}
 use Rattle.tables.specs.Examination.{tests, examination, Fine}
 use Rattle.tables.proofs.Bools.{passes-not}
-use Rattle.tables.proofs.Causes.{size-good, good-size, bytes-good, good-bytes, pair-rest, good-pair, above-rising, rising-above}
+use Rattle.tables.proofs.Causes.{size-good, good-size, bytes-good, good-bytes}
+use Rattle.tables.proofs.Ways.{way-good, good-pair, above-rising, rising-above}
 use Rattle.tables.proofs.Words.{rows-good, good-rows}
 use Rattle.tables.proofs.Laws.{none-fine, fine-none, none-is-fine}
 
@@ -40,7 +41,7 @@ sane-fine t s =
     (nor (λ k l. le-ltb 64 (boats t) (s .fewBoats))
     (nor (λ i l. size-good (t .sizes) i (λ e. omega (arith, s .someSlots i l)) (s .fewSlots i l))
     (nor (λ k l. bytes-good (t .pairs) (s .twoBytes) (s .fewPairs))
-    (nor (λ k l. pair-rest (boats t) (t .pairs) k (s .lowerFirst k l) (s .boatsNamed k l) ∙ rising-above (t .pairs) (s .rising) k l)
+    (nor (λ k l. way-good (boats t) (t .pairs) k (s .lowerFirst k l) (s .boatsNamed k l) (rising-above (t .pairs) (s .rising) k l))
     (nor (λ k l. passes-not _ (eq-eqb _ _ (s .rowWords)))
     (nor (rows-good t (s .rowWords) (s .rowBits))
     none))))))

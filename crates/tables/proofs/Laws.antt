@@ -7,11 +7,10 @@ use Prim.Native.Nat.{ℕ, _≤_, _<_}
 use native.Mathlib.Omega.{arith}
 use borrow.Author.Tests.{ltb-true, ltb-false}
 use lib.Dec.{ltb}
-use Rattle.problem.specs.Lowest.{lowest}
 use Rattle.problem.specs.Tables.{Tables}
 use Rattle.problem.specs.Replies.{Told}
 use Rattle.problem.proofs.Lowest.{lowest-here, lowest-fails, lowest-passes, none-lowest}
-use Rattle.tables.specs.Tests.{Test, firstOf}
+use Rattle.tables.specs.Tests.{says, Test, found, firstOf}
 use Rattle.tables.specs.Applies.{NoneApplies, none, nor, Gives, here, later}
 use Rattle.tables.specs.Examination.{tests, examination, Fine}
 use Rattle.tables.proofs.Examining.{applies, passes, fails-passes, outcome}
@@ -24,35 +23,31 @@ none-fine ts o (nor {test} {tests} f n) = fails-passes test tests o f ∙ none-f
 
 pub gives-first : (ts : List Test) (o w : Told) → Gives ts w → firstOf ts o ≡ w
 gives-first ts o w (here {test} {tests} k l p f) =
-    let q = lowest-here (test .places) (test .cause) k l f p in
-    applies test tests o (omega arith) ∙ ap (test .says) q
+    let q = lowest-here (test .places) (λ j. test .at j .cause) k l f p in
+    applies test tests o (omega arith) ∙ ap (λ j. says (test .at j)) q
 gives-first ts o w (later {test} {tests} f g) = fails-passes test tests o f ∙ gives-first tests o w g
 
 pub first-gives : (ts : List Test) (o : Told) → NoneApplies ts ⊎ Gives ts (firstOf ts o)
 first-gives [] o = inl none
-first-gives (test ∷ ts) o = by (ltb (lowest (test .places) (test .cause)) (test .places)) refl (first-gives ts o)
+first-gives (test ∷ ts) o = by (ltb (found test) (test .places)) refl (first-gives ts o)
   where
-    by : (b : Bool) → ltb (lowest (test .places) (test .cause)) (test .places) ≡ b → NoneApplies ts ⊎ Gives ts (firstOf ts o)
+    by : (b : Bool) → ltb (found test) (test .places) ≡ b → NoneApplies ts ⊎ Gives ts (firstOf ts o)
         → NoneApplies (test ∷ ts) ⊎ Gives (test ∷ ts) (firstOf (test ∷ ts) o)
     by true e rest =
         let l = ltb-true _ _ e in
-        inr (rw (applies test ts o l) (here _ l (lowest-passes (test .places) (test .cause) l) (lowest-fails (test .places) (test .cause))))
+        inr (rw (applies test ts o l) (here _ l (lowest-passes (test .places) (λ k. test .at k .cause) l) (lowest-fails (test .places) (λ k. test .at k .cause))))
     by false e rest =
         let l = ltb-false _ _ e in
-        let f = none-lowest (test .places) (test .cause) l in
+        let f = none-lowest (test .places) (λ k. test .at k .cause) l in
         ⊎-elim (λ n. inl (nor f n)) (λ g. inr (rw (passes test ts o l) (later f g))) rest
 
 -- refusals count from 100, so that a lower number says that no test applies
-abbrev pub Refuses : List Test → Type 0
-Refuses [] = Unit {0}
-Refuses (test ∷ ts) = ((k : ℕ) → 100 ≤ test .says k .number) × Refuses ts
+pub gives-refused : (ts : List Test) (w : Told) → Gives ts w → 100 ≤ w .number
+gives-refused ts w (here {test} {tests} k l p f) = omega arith
+gives-refused ts w (later {test} {tests} f g) = gives-refused tests w g
 
-pub gives-refused : (ts : List Test) (w : Told) → Gives ts w → Refuses ts → 100 ≤ w .number
-gives-refused ts w (here {test} {tests} k l p f) r = r .0 k
-gives-refused ts w (later {test} {tests} f g) r = gives-refused tests w g (r .1)
-
-pub small-none : (ts : List Test) (o : Told) → Refuses ts → firstOf ts o .number < 100 → NoneApplies ts
-small-none ts o r l = ⊎-elim (λ n. n) (λ g. absurd (omega (arith, gives-refused ts (firstOf ts o) g r))) (first-gives ts o)
+pub small-none : (ts : List Test) (o : Told) → firstOf ts o .number < 100 → NoneApplies ts
+small-none ts o l = ⊎-elim (λ n. n) (λ g. absurd (omega (arith, gives-refused ts (firstOf ts o) g))) (first-gives ts o)
 
 pub large-gives : (ts : List Test) (o : Told) → o .number < 100 → 100 ≤ firstOf ts o .number → Gives ts (firstOf ts o)
 large-gives ts o s l =
@@ -70,7 +65,7 @@ gives-before pre post w (later {test} {tests} f g) = later f (gives-before tests
 -- ---- the examination
 pub fine-none : (t : Tables) → Fine t → NoneApplies (tests t)
 unfolding examination
-fine-none t e = small-none (tests t) (outcome t) (omega arith) (omega arith)
+fine-none t e = small-none (tests t) (outcome t) (omega arith)
 
 pub none-is-fine : (t : Tables) → NoneApplies (tests t) → Fine t
 unfolding examination

@@ -4,11 +4,11 @@ use mathlib.Core.Bool.{true, false}
 use mathlib.Core.List.{List, [], _∷_}
 use Prim.Native.Nat.{ℕ, _<_}
 use Rattle.problem.specs.Replies.{Told}
-use Rattle.tables.specs.Tests.{Test}
+use Rattle.tables.specs.Tests.{Test, says}
 
 -- a test fails at each of its places
 abbrev pub Fails : Test → Type 0
-Fails test = (k : ℕ) → k < test .places → test .cause k ≡ false
+Fails test = (k : ℕ) → k < test .places → test .at k .cause ≡ false
 
 -- no test applies: each fails at each of its places
 pub data NoneApplies : List Test → Type 0 where
@@ -17,6 +17,6 @@ pub data NoneApplies : List Test → Type 0 where
 
 -- the first test that applies, at its lowest place, says this
 pub data Gives : List Test → Told → Type 0 where
-  here : {test : Test} {tests : List Test} (k : ℕ) → k < test .places → test .cause k ≡ true → ((j : ℕ) → j < k → test .cause j ≡ false)
-      → Gives (test ∷ tests) (test .says k)
+  here : {test : Test} {tests : List Test} (k : ℕ) → k < test .places → test .at k .cause ≡ true → ((j : ℕ) → j < k → test .at j .cause ≡ false)
+      → Gives (test ∷ tests) (says (test .at k))
   later : {test : Test} {tests : List Test} {told : Told} → Fails test → Gives tests told → Gives (test ∷ tests) told

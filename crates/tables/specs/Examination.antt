@@ -1,14 +1,14 @@
--- The examination of the tables: numbers 2 to 7, each with its cause. (Document 01, 'Numbers given back'.)
+-- The examination of the tables: numbers 2, 3, 4, 51 to 54, 6 and 7, each with its cause. (Document 01, 'Numbers given back'; document 02, No. 1.)
 use mathlib.Core.Path.{_≡_}
 use mathlib.Core.Bool.{Bool, false, not, _&&_, _||_}
 use mathlib.Core.List.{List, [], _∷_}
-use Prim.Native.Nat.{ℕ, zero, suc, _%_, _^_}
+use Prim.Native.Nat.{ℕ, zero, suc, _+_, _*_, _%_, _^_}
 use lib.Dec.{ltb, leb, eqb}
 use lib.ListN.{length, getD}
 use Rattle.problem.specs.Lowest.{lowest}
 use Rattle.problem.specs.Tables.{Tables, boats, size, listed, lower, higher, start}
 use Rattle.problem.specs.Replies.{Told, told}
-use Rattle.tables.specs.Tests.{Test, once, each, firstOf}
+use Rattle.tables.specs.Tests.{Fault, fault, firstFault, Test, once, each, eachWay, firstOf}
 
 -- 2: more than 64 boats
 abbrev pub tooManyBoats : Tables → Bool
@@ -22,13 +22,19 @@ badSize sizes i = eqb (size sizes i) 0 || ltb 64 (size sizes i)
 abbrev pub badPairBytes : List ℕ → Bool
 badPairBytes pairs = eqb (length pairs % 2) 1 || ltb 4032 (length pairs)
 
--- 5: a pair not lower-then-higher, naming no boat, or not above the pair before
-abbrev pub notLowerThenHigher : List ℕ → ℕ → Bool
-notLowerThenHigher pairs k = leb (higher pairs k) (lower pairs k)
+-- 51: a byte of a pair names no boat
+abbrev pub namesNoBoat : (n byte : ℕ) → Bool
+namesNoBoat n byte = leb n byte
 
-abbrev pub namesNoBoat : (n : ℕ) → List ℕ → ℕ → Bool
-namesNoBoat n pairs k = leb n (lower pairs k) || leb n (higher pairs k)
+-- 52: both boats of a pair are the same
+abbrev pub sameBoat : List ℕ → ℕ → Bool
+sameBoat pairs k = eqb (lower pairs k) (higher pairs k)
 
+-- 53: the higher boat first
+abbrev pub higherFirst : List ℕ → ℕ → Bool
+higherFirst pairs k = ltb (higher pairs k) (lower pairs k)
+
+-- 54: a pair equal to or below the one before
 abbrev pub isAbove : List ℕ → (k before : ℕ) → Bool
 isAbove pairs k before =
     ltb (lower pairs before) (lower pairs k)
@@ -38,8 +44,18 @@ abbrev pub notAbovePairBefore : List ℕ → ℕ → Bool
 notAbovePairBefore pairs zero = false
 notAbovePairBefore pairs (suc k) = not (isAbove pairs (suc k) k)
 
-unfoldable pub badPair : (n : ℕ) → List ℕ → ℕ → Bool
-badPair n pairs k = notLowerThenHigher pairs k || namesNoBoat n pairs k || notAbovePairBefore pairs k
+-- 51 to 54: the ways in which pair k may be bad, in their order, each with the byte where the fault stands
+abbrev pub waysBad : (n : ℕ) → List ℕ → ℕ → List Fault
+waysBad n pairs k =
+    fault 51 (2 * k) (namesNoBoat n (lower pairs k))
+    ∷ fault 51 (2 * k + 1) (namesNoBoat n (higher pairs k))
+    ∷ fault 52 (2 * k + 1) (sameBoat pairs k)
+    ∷ fault 53 (2 * k) (higherFirst pairs k)
+    ∷ fault 54 (2 * k) (notAbovePairBefore pairs k)
+    ∷ []
+
+unfoldable pub wayBad : (n : ℕ) → List ℕ → ℕ → Fault
+wayBad n pairs k = firstFault (waysBad n pairs k)
 
 -- 6: row words are not the sum of the lower boats' sizes over the pairs
 abbrev pub badRowWords : Tables → Bool
@@ -58,7 +74,7 @@ tests t =
     once 2 (tooManyBoats t)
     ∷ each 3 (boats t) (badSize (t .sizes))
     ∷ once 4 (badPairBytes (t .pairs))
-    ∷ each 5 (listed (t .pairs)) (badPair (boats t) (t .pairs))
+    ∷ eachWay (listed (t .pairs)) (wayBad (boats t) (t .pairs))
     ∷ once 6 (badRowWords t)
     ∷ each 7 (length (t .rows)) (badWord t)
     ∷ []

@@ -2,4 +2,5 @@ pub mod Tests
 pub mod Applies
 pub mod Examination
 pub mod Framed
+pub mod Ways
 pub mod Replies

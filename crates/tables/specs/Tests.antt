@@ -6,25 +6,46 @@ use lib.Dec.{ltb}
 use Rattle.problem.specs.Lowest.{lowest}
 use Rattle.problem.specs.Replies.{Told, refused}
 
--- a test looks for its cause at the places 0, 1, .. places - 1, and says its refusal there
+-- what may be at fault, with the number and the place of its refusal
+pub record Fault : Type 0 where
+  pub cause : Bool
+  pub number : ℕ
+  pub place : ℕ
+
+abbrev pub fault : (number place : ℕ) → (cause : Bool) → Fault
+fault number place cause = record { cause = cause; number = number; place = place }
+
+abbrev pub says : Fault → Told
+says f = refused (f .number) (f .place)
+
+-- of several faults, in their order, the first whose cause is there; without a cause where there is none
+abbrev pub firstFault : List Fault → Fault
+firstFault [] = fault 0 0 false
+firstFault (f ∷ fs) = elim (f .cause) [ true ↦ f | false ↦ firstFault fs ]
+
+-- a test looks for its fault at 0, 1, .. places - 1, the lowest first
 pub record Test : Type 0 where
   pub places : ℕ
-  pub cause : ℕ → Bool
-  pub says : ℕ → Told
+  pub at : ℕ → Fault
 
 -- a test of the whole input: its place is 0
 abbrev pub once : (number : ℕ) → Bool → Test
-once number cause = record { places = 1; cause = λ k. cause; says = refused number }
+once number cause = record { places = 1; at = λ k. fault number 0 cause }
 
--- a test of each of so many places, the lowest first
+-- a test of each of so many places, which its refusal names
 abbrev pub each : (number places : ℕ) → (ℕ → Bool) → Test
-each number places cause = record { places = places; cause = cause; says = refused number }
+each number places cause = record { places = places; at = λ k. fault number k (cause k) }
+
+-- a test whose refusal at k is what is at fault there
+abbrev pub eachWay : (places : ℕ) → (ℕ → Fault) → Test
+eachWay places way = record { places = places; at = way }
+
+-- the lowest where its cause is there; `places` where it is nowhere
+abbrev pub found : Test → ℕ
+found test = lowest (test .places) (λ k. test .at k .cause)
 
 -- what the tests say in turn; `otherwise` where none applies
 unfoldable pub firstOf : List Test → (otherwise : Told) → Told
 firstOf [] otherwise = otherwise
 firstOf (test ∷ tests) otherwise =
-    elim (ltb (lowest (test .places) (test .cause)) (test .places)) [
-      | true ↦ test .says (lowest (test .places) (test .cause))
-      | false ↦ firstOf tests otherwise
-    ]
+    elim (ltb (found test) (test .places)) [ true ↦ says (test .at (found test)) | false ↦ firstOf tests otherwise ]

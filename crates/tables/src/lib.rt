@@ -8,6 +8,7 @@ mod pairs;
 mod rows;
 mod sizes;
 
+use pairs::Way;
 use problem::Problem;
 use problem::Refusal;
 
@@ -31,9 +32,9 @@ pub fn examine(sizes: &[u8], pairs: &[u8], rows: &[u64]) -> Examined
         return Examined::Refused(Refusal::PairBytes);
     }
     let count = pairs.len() / 2;
-    let pair = pairs::first_bad_pair(sizes.len(), pairs);
-    if pair < count {
-        return Examined::Refused(Refusal::Pair(pair));
+    let way = pairs::first_bad_pair(sizes.len(), pairs);
+    if let Way::Bad(why) = way {
+        return Examined::Refused(why);
     }
     if rows.len() != looks::start_of(sizes, pairs, count) {
         return Examined::Refused(Refusal::RowWords);

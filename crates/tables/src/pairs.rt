@@ -1,9 +1,17 @@
-// Number 5: the listed pairs.
+// Numbers 51 to 54: the listed pairs.
 ghost use mathlib.Core.Path.{_≡_};
 ghost use Prim.Native.Nat.{_<_};
-ghost use Rattle.problem.specs.Lowest.{lowest};
 ghost use Rattle.problem.specs.Tables.{listed};
-ghost use Rattle.tables.specs.Examination.{badPair, isAbove};
+ghost use Rattle.tables.specs.Tests.{eachWay};
+ghost use Rattle.tables.specs.Examination.{notAbovePairBefore, wayBad, isAbove};
+ghost use Rattle.tables.specs.Ways.{IsWay, IsFirst};
+use problem::Refusal;
+
+// A pair, or all of them, good; or the way that one is bad, with its byte.
+pub enum Way {
+    Good,
+    Bad(Refusal),
+}
 
 // A pair is above an earlier one: by its lower boat, then by its higher.
 fn is_above(pairs: &[u8], pair: usize, before: usize) -> bool
@@ -19,34 +27,56 @@ fn is_above(pairs: &[u8], pair: usize, before: usize) -> bool
     low_before == low && looks::higher_of(pairs, before) < looks::higher_of(pairs, pair)
 }
 
-fn is_bad_pair(boats: usize, pairs: &[u8], pair: usize) -> bool
+// A pair is equal to or below the one before; the first has none before it.
+fn is_not_rising(pairs: &[u8], pair: usize) -> bool
     requires { ⌜ pair < listed (now pairs) ⌝ }
-    ensures { λ r. ⌜ r ≡ badPair boats (now (pairs .entry)) pair ⌝ }
+    ensures { λ r. ⌜ r ≡ notAbovePairBefore (now (pairs .entry)) pair ⌝ }
 {
-    let high = looks::higher_of(pairs, pair);
-    if high <= looks::lower_of(pairs, pair) {
-        return true;
-    }
-    if boats <= high {
-        return true;
-    }
     if pair == 0 {
         return false;
     }
     !is_above(pairs, pair, pair - 1)
 }
 
-// The lowest bad pair; the number of pairs where there is none.
-pub fn first_bad_pair(boats: usize, pairs: &[u8]) -> usize
-    ensures { λ r. ⌜ r ≡ lowest (listed (now (pairs .entry))) (badPair boats (now (pairs .entry))) ⌝ }
+// The first of the four ways in which a pair is bad, if it is.
+fn way_bad(boats: usize, pairs: &[u8], pair: usize) -> Way
+    requires { ⌜ pair < listed (now pairs) ⌝ }
+    ensures { λ r. ⌜ IsWay r (wayBad boats (now (pairs .entry)) pair) ⌝ }
+{
+    let low = looks::lower_of(pairs, pair);
+    let high = looks::higher_of(pairs, pair);
+    let first = 2 * pair;
+    let second = first + 1;
+    if boats <= low {
+        return Way::Bad(Refusal::PairNoBoat(first));
+    }
+    if boats <= high {
+        return Way::Bad(Refusal::PairNoBoat(second));
+    }
+    if low == high {
+        return Way::Bad(Refusal::PairSameBoat(second));
+    }
+    if high < low {
+        return Way::Bad(Refusal::PairHigherFirst(first));
+    }
+    if is_not_rising(pairs, pair) {
+        return Way::Bad(Refusal::PairNotRising(first));
+    }
+    Way::Good
+}
+
+// The way in which the lowest bad pair is bad, if there is one.
+pub fn first_bad_pair(boats: usize, pairs: &[u8]) -> Way
+    ensures { λ r. ⌜ IsFirst r (eachWay (listed (now (pairs .entry))) (wayBad boats (now (pairs .entry)))) ⌝ }
 {
     let count = pairs.len() / 2;
     let mut k: usize = 0;
     while k < count {
-        if is_bad_pair(boats, pairs, k) {
-            return k;
+        let way = way_bad(boats, pairs, k);
+        if let Way::Bad(why) = way {
+            return Way::Bad(why);
         }
         k += 1;
     }
-    count
+    Way::Good
 }

@@ -1,4 +1,5 @@
-//! Examination of the tables: numbers 2 to 7, the lowest that applies.
+//! Examination of the tables: numbers 2, 3, 4, 51 to 54, 6 and 7, tested in this order. The first that
+//! applies is given.
 
 use crate::answer::{refuse, Refusal};
 use crate::tables::{Tables, MOST_BOATS, MOST_PAIRS, MOST_SLOTS};
@@ -36,16 +37,35 @@ fn pair_bytes(tables: &Tables) -> Result<(), Refusal> {
     Ok(())
 }
 
+/// The lowest faulty pair decides, whichever of 51 to 54 it is.
 fn pairs(tables: &Tables) -> Result<(), Refusal> {
-    let mut before: Option<(usize, usize)> = None;
-    for (index, (lower, higher)) in tables.listed_pairs().enumerate() {
-        let wrong_way = lower >= higher;
-        let no_boat = lower >= tables.boats() || higher >= tables.boats();
-        let not_above = before.is_some_and(|pair_before| (lower, higher) <= pair_before);
-        if wrong_way || no_boat || not_above {
-            return refuse(5, index);
-        }
-        before = Some((lower, higher));
+    let mut before = None;
+    for (index, pair) in tables.listed_pairs().enumerate() {
+        one_pair(tables.boats(), 2 * index, pair, before)?;
+        before = Some(pair);
+    }
+    Ok(())
+}
+
+type Pair = (usize, usize);
+
+/// Numbers 51 to 54 of the pair whose first byte stands at `first`; the place is the byte at fault.
+fn one_pair(boats: usize, first: usize, pair: Pair, before: Option<Pair>) -> Result<(), Refusal> {
+    let (lower, higher) = pair;
+    if lower >= boats {
+        return refuse(51, first);
+    }
+    if higher >= boats {
+        return refuse(51, first + 1);
+    }
+    if lower == higher {
+        return refuse(52, first + 1);
+    }
+    if lower > higher {
+        return refuse(53, first);
+    }
+    if before.is_some_and(|pair_before| pair <= pair_before) {
+        return refuse(54, first);
     }
     Ok(())
 }

@@ -1,5 +1,6 @@
-//! An independent second program for the harbour's problem, written from docs/01-scope.md alone.
-//! It is meant to be obviously right, not fast: visits are nested calls, and nothing is ever undone.
+//! An independent second program for the harbour's problem, written from docs/01-scope.md and request
+//! No. 1 of docs/02-change-requests.md alone. It is meant to be obviously right, not fast: visits are
+//! nested calls, and nothing is ever undone.
 #![forbid(unsafe_code)]
 
 pub mod allowances;

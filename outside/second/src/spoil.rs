@@ -17,12 +17,12 @@ pub fn spoiled(random: &mut Random) -> Problem {
         tables,
     };
     for _ in 0..random.between(0, 4) {
-        match random.between(0, 10) {
+        match random.between(0, 12) {
             0 | 1 => spoil_sizes(random, &mut problem.tables),
-            2..=4 => spoil_pairs(random, &mut problem.tables),
-            5..=7 => spoil_rows(random, &mut problem.tables),
-            8 => problem.method = random.one_of(&[0, 6, 7, 255, 257, (1 << 32) + 1, u64::MAX]),
-            9 => problem.plan_len = random.index(problem.tables.boats().max(1)),
+            2..=6 => spoil_pairs(random, &mut problem.tables),
+            7..=9 => spoil_rows(random, &mut problem.tables),
+            10 => problem.method = random.one_of(&[0, 6, 7, 255, 257, (1 << 32) + 1, u64::MAX]),
+            11 => problem.plan_len = random.index(problem.tables.boats().max(1)),
             _ => problem.work_len = random.one_of(&[0, 1, 64, 4096, WORKING_WORDS - 1]),
         }
     }
@@ -35,7 +35,7 @@ fn sound_tables(random: &mut Random) -> Tables {
         1 => complete(64, 1),
         2 => Tables { sizes: vec![64; 64], ..Tables::default() },
         3 => complete(3, 64),
-        4..=11 => random_tables(random, "tiny").unwrap_or_default(),
+        4..=7 => random_tables(random, "tiny").unwrap_or_default(),
         _ => random_tables(random, "small").unwrap_or_default(),
     }
 }
@@ -62,21 +62,49 @@ fn spoil_sizes(random: &mut Random, tables: &mut Tables) {
     tables.sizes[boat] = random.one_of(&[0, 65, 255, 64, 128]);
 }
 
+/// One faulty pair or several.
 fn spoil_pairs(random: &mut Random, tables: &mut Tables) {
     let listed = tables.pairs.len() / 2;
     if listed == 0 || random.chance(200) {
         return spoil_pair_bytes(random, tables);
     }
-    let (first, last) = (2 * random.index(listed), 2 * (listed - 1));
-    match random.between(0, 6) {
-        0 => tables.pairs.swap(first, first + 1),
-        1 => tables.pairs[first + 1] = tables.pairs[first],
-        2 => tables.pairs[first + 1] = random.one_of(&[tables.boats() as u8, 64, 65, 255]),
-        3 => tables.pairs[first] = random.one_of(&[tables.boats() as u8, 64, 255]),
-        4 => tables.pairs.extend_from_within(first..first + 2),
-        5 => (0..2).for_each(|byte| tables.pairs.swap(first + byte, last + byte)),
-        _ => tables.pairs[first] = random.between(0, 5) as u8,
+    for _ in 0..random.one_of(&[1, 1, 1, 2, 3]) {
+        let pair = random.index(listed);
+        spoil_pair(random, tables, 2 * pair);
     }
+}
+
+/// The pair at this byte names no boat, in either byte or both; names one boat twice; is turned; is
+/// exchanged with another; or itself, or one listed before it, is listed right after it, and there now
+/// and then has a fault of its own.
+fn spoil_pair(random: &mut Random, tables: &mut Tables, first: usize) {
+    let no_boat = random.one_of(&[tables.boats() as u8, 64, 65, 255]);
+    match random.between(0, 8) {
+        0 => tables.pairs[first] = no_boat,
+        1 => tables.pairs[first + 1] = no_boat,
+        2 => tables.pairs[first..first + 2].fill(no_boat),
+        3 => tables.pairs[first + 1] = tables.pairs[first],
+        4 => tables.pairs.swap(first, first + 1),
+        5 | 6 => {
+            list_again(tables, 2 * random.index(first / 2 + 1), first);
+            if random.chance(500) {
+                spoil_pair(random, tables, first + 2);
+            }
+        }
+        7 => exchange(tables, first, 2 * random.index(tables.pairs.len() / 2)),
+        _ => tables.pairs[first + random.index(2)] = random.between(0, 5) as u8,
+    }
+}
+
+/// The pair at one byte once more, right after the pair at another.
+fn list_again(tables: &mut Tables, pair: usize, after: usize) {
+    let again = [tables.pairs[pair], tables.pairs[pair + 1]];
+    tables.pairs.splice(after + 2..after + 2, again);
+}
+
+fn exchange(tables: &mut Tables, pair: usize, other: usize) {
+    tables.pairs.swap(pair, other);
+    tables.pairs.swap(pair + 1, other + 1);
 }
 
 /// Too few, odd in number, or too many; the bytes themselves may be anything.

@@ -28,6 +28,9 @@ fn refused_plans() {
     assert_eq!(lawful(&d, &[0, 2, 2]), Err(Refusal { number: 11, place: 1 }));
     let bad = Tables { sizes: vec![0], ..Tables::default() };
     assert_eq!(first_broken_pair(&bad, &[]), Err(Refusal { number: 3, place: 0 }));
+    let bad_pair = Tables { pairs: vec![0, 1, 1, 1], ..d };
+    assert_eq!(lawful(&bad_pair, &[]), Err(Refusal { number: 52, place: 3 }));
+    assert_eq!(first_broken_pair(&bad_pair, &[9, 9]), Err(Refusal { number: 52, place: 3 }));
 }
 
 #[test]

@@ -1,6 +1,6 @@
 use borrow.Author.Needs.{needs}
 use native.Mathlib.Omega.{arith}
-use Rattle.handing.proofs.Numbers.{eleven, refusal-handed}
+use Rattle.handing.proofs.Numbers.{number-small, refusal-handed}
 use Rattle.handing.proofs.refused.Statement.{statement}
 use Rattle.handing.proofs.refused.Tie as tie
 
@@ -8,7 +8,7 @@ number-of-requires : tie.Need-number-of-requires
 number-of-requires c κs = search needs
 
 add-numbered : tie.Need-add-numbered
-add-numbered c = let b = eleven (c .before .before .args .why) in omega arith
+add-numbered c = let b = number-small (c .before .before .args .why) in omega arith
 
 numbered-requires : tie.Need-numbered-requires
 numbered-requires c κs = search needs

@@ -10,7 +10,7 @@ use Rattle.problem.specs.declared.Method.{Method}
 use Rattle.problem.specs.declared.MethodFound.the-variants.{Found}
 use Rattle.problem.specs.declared.Reply.{Reply}
 use Rattle.runs.specs.Runs.{resultOf, runResult}
-use Rattle.runs.proofs.Refusing.{found-fine, found-refused, says-1, says-2-to-7, result-refused, result-lent}
+use Rattle.runs.proofs.Refusing.{found-fine, found-refused, says-1, says-examined, result-refused, result-lent}
 use borrow.Author.Needs.{needs}
 use Rattle.planner.proofs.run.Statement.{statement}
 use Rattle.planner.proofs.run.Tie as tie
@@ -106,7 +106,7 @@ returns-3 c =
     let s = begin k in
     refuses s (c .refused2 .ensures)
     (result-refused (s .args .method) (T s) (planOf s) (workOf s) (s .args .checks) (s .args .trials)
-    (says-2-to-7 (s .args .method) (T s) (length (planOf s)) (length (workOf s)) (chosen k) (known k) (found-refused (T s) (e .examine .ensures) (x .examined .given .1)) (omega arith)) (omega arith))
+    (says-examined (s .args .method) (T s) (length (planOf s)) (length (workOf s)) (chosen k) (known k) (found-refused (T s) (e .examine .ensures) (x .examined .given .1)) (omega arith)) (omega arith))
 
 pub run-spec : {M : Type 1} → statement M
 run-spec =

@@ -1,12 +1,15 @@
 -- Each return gives the refusal of the first test that applies: the tests before it were passed.
-use mathlib.Core.Path.{sym, ap, _∙_}
+use mathlib.Core.Path.{sym, ap, subst, _∙_}
 use Prim.Native.Nat.{_≤_}
 use borrow.Author.Needs.{needs}
 use borrow.Author.Tests.{ltb-true, ltb-false}
 use Rattle.problem.specs.Tables.{Tables, tables, boats}
 use Rattle.tables.specs.declared.Examined.the-variants.{Fine}
+use Rattle.tables.specs.declared.pairs.Way.{Way}
+use Rattle.tables.specs.declared.pairs.Way.the-variants.{Good}
 use Rattle.tables.specs.Replies.{examinedTold}
-use Rattle.tables.proofs.Examining.{examined-2, examined-3, examined-4, examined-5, examined-6, examined-7, examined-fine, summable, framed}
+use Rattle.tables.specs.Ways.{IsFirst}
+use Rattle.tables.proofs.Examining.{examined-2, examined-3, examined-4, examined-51, examined-6, examined-7, examined-fine, pairTest, summable, framed}
 use Rattle.tables.proofs.examine.Statement.{statement}
 use Rattle.tables.proofs.examine.Tie as tie
 
@@ -44,64 +47,76 @@ returns-3 c =
 first-bad-pair-requires : tie.Need-first-bad-pair-requires
 first-bad-pair-requires c κs = search needs
 
+enum-known-way : tie.Need-enum-known-way
+enum-known-way c = search needs
+
 returns-4 : tie.Need-returns-4
 returns-4 c =
-    let e3 = c .before .before in
+    let w = c .before in
+    let p = w .before .before in
+    let e3 = p .before in
     let e2 = e3 .before .before in
     let e1 = e2 .before .before in
-    examined-5 _ (few e1) (e2 .before .first-bad-size .ensures) (e2 .if2 .left) (e3 .before .bad-pair-bytes .ensures) (e3 .if3 .left)
-    (c .before .first-bad-pair .ensures) (c .if4 .taken)
+    examined-51 _ (few e1) (e2 .before .first-bad-size .ensures) (e2 .if2 .left) (e3 .before .bad-pair-bytes .ensures) (e3 .if3 .left)
+    (w .way .given .0 .0) (subst (λ (x : Way). IsFirst x (pairTest (T (e1 .before)))) (w .way .given .1) (p .first-bad-pair .ensures))
+
+enum-told : tie.Need-enum-told
+enum-told c = search needs
+
+-- no pair is bad
+paired : (c : tie.After-enum-told) → IsFirst Good (pairTest (T (c .before .before .before .before .before .before .before .before)))
+paired c = subst (λ (x : Way). IsFirst x (pairTest (T (c .before .before .before .before .before .before .before .before)))) (c .enum-told .given .1) (c .before .before .first-bad-pair .ensures)
 
 start-of-requires : tie.Need-start-of-requires
 start-of-requires c κs =
-    let e3 = c .before .before in
+    let e3 = c .before .before .before in
     let e2 = e3 .before .before in
     let e1 = e2 .before .before in
     summable (T (e1 .before)) (few e1) (e2 .before .first-bad-size .ensures) (e2 .if2 .left) (e3 .before .bad-pair-bytes .ensures) (e3 .if3 .left)
-    (c .before .first-bad-pair .ensures) (c .if4 .left)
+    (paired c)
 
 returns-5 : tie.Need-returns-5
 returns-5 c =
-    let e4 = c .before .before in
-    let e3 = e4 .before .before in
+    let p = c .before .before in
+    let e3 = p .before .before .before in
     let e2 = e3 .before .before in
     let e1 = e2 .before .before in
     examined-6 _ (few e1) (e2 .before .first-bad-size .ensures) (e2 .if2 .left) (e3 .before .bad-pair-bytes .ensures) (e3 .if3 .left)
-    (e4 .before .first-bad-pair .ensures) (e4 .if4 .left) (c .before .start-of .ensures .0) (c .if5 .taken)
+    (paired p) (c .before .start-of .ensures .0) (c .if4 .taken)
 
 first-bad-word-requires : tie.Need-first-bad-word-requires
 first-bad-word-requires c κs =
-    let e4 = c .before .before in
-    let e3 = e4 .before .before in
+    let p = c .before .before in
+    let e3 = p .before .before .before in
     let e2 = e3 .before .before in
     let e1 = e2 .before .before in
     framed _ (few e1) (e2 .before .first-bad-size .ensures) (e2 .if2 .left) (e3 .before .bad-pair-bytes .ensures) (e3 .if3 .left)
-    (e4 .before .first-bad-pair .ensures) (e4 .if4 .left) (c .before .start-of .ensures .0) (c .if5 .left)
+    (paired p) (c .before .start-of .ensures .0) (c .if4 .left)
 
 returns-6 : tie.Need-returns-6
 returns-6 c =
-    let e5 = c .before .before in
-    let e4 = e5 .before .before in
-    let e3 = e4 .before .before in
+    let e4 = c .before .before in
+    let p = e4 .before .before in
+    let e3 = p .before .before .before in
     let e2 = e3 .before .before in
     let e1 = e2 .before .before in
     examined-7 _ (few e1) (e2 .before .first-bad-size .ensures) (e2 .if2 .left) (e3 .before .bad-pair-bytes .ensures) (e3 .if3 .left)
-    (e4 .before .first-bad-pair .ensures) (e4 .if4 .left) (e5 .before .start-of .ensures .0) (e5 .if5 .left) (c .before .first-bad-word .ensures) (c .if6 .taken)
+    (paired p) (e4 .before .start-of .ensures .0) (e4 .if4 .left) (c .before .first-bad-word .ensures) (c .if5 .taken)
 
 of-requires : tie.Need-of-requires
 of-requires c κs = search needs
 
 returns-7 : tie.Need-returns-7
 returns-7 c =
-    let e6 = c .before in
-    let e5 = e6 .before .before in
+    let e5 = c .before in
     let e4 = e5 .before .before in
-    let e3 = e4 .before .before in
+    let p = e4 .before .before in
+    let e3 = p .before .before .before in
     let e2 = e3 .before .before in
     let e1 = e2 .before .before in
     ap (λ p. examinedTold (Fine p)) (c .of .ensures)
     ∙ examined-fine _ (few e1) (e2 .before .first-bad-size .ensures) (e2 .if2 .left) (e3 .before .bad-pair-bytes .ensures) (e3 .if3 .left)
-    (e4 .before .first-bad-pair .ensures) (e4 .if4 .left) (e5 .before .start-of .ensures .0) (e5 .if5 .left) (e6 .before .first-bad-word .ensures) (e6 .if6 .left)
+    (paired p) (e4 .before .start-of .ensures .0) (e4 .if4 .left) (e5 .before .first-bad-word .ensures) (e5 .if5 .left)
 
 pub examine-spec : {M : Type 1} → statement M
 examine-spec =
@@ -114,7 +129,9 @@ examine-spec =
     bad-pair-bytes-requires
     returns-3
     first-bad-pair-requires
+    enum-known-way
     returns-4
+    enum-told
     start-of-requires
     returns-5
     first-bad-word-requires

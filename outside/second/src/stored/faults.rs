@@ -1,29 +1,52 @@
-//! Tables with chosen faults: every set of numbers 2 to 7 at once, and each kind of fault alone.
+//! Tables with chosen faults: every set of the examination's numbers at once, and each kind of fault
+//! alone. Which way a pair can be bad is told in bad_pairs.rs.
 
 use super::by_hand::all_pairs;
 use crate::tables::Tables;
 
-/// Four boats, where each of the numbers 2 to 7 can be brought about without another.
+/// Four boats, where each number of the examination can be brought about without another.
 fn sound() -> Tables {
-    let (sizes, pairs) = (vec![2, 3, 2, 1], vec![0, 1, 0, 2, 1, 2, 2, 3]);
-    Tables { sizes, pairs, rows: vec![7, 7, 3, 3, 3, 3, 3, 1, 1] }
+    rows_to_fit(&[0, 1, 0, 2, 1, 2, 2, 3])
 }
 
-/// One table for each set of the numbers 2 to 7, the empty set first.
+/// Four boats with these pairs, and all their rows with every bit that may be set. A byte that names no
+/// boat counts as size 0.
+pub fn rows_to_fit(pairs: &[u8]) -> Tables {
+    let mut tables = Tables { sizes: vec![2, 3, 2, 1], pairs: pairs.to_vec(), rows: Vec::new() };
+    let size = |boat: usize| tables.sizes.get(boat).copied().unwrap_or(0) as usize;
+    let of_pair = |(lower, higher)| vec![(1 << size(higher)) - 1; size(lower)];
+    tables.rows = tables.listed_pairs().flat_map(of_pair).collect();
+    tables
+}
+
+/// One table for each set of the numbers 2, 3, 4, one of 51 to 54, 6 and 7, the empty set first.
 pub fn sets() -> Vec<Tables> {
-    (0..1 << 6).map(|set| with_faults(|number| set >> (number - 2) & 1 == 1)).collect()
+    (0..1 << 6).map(|set| with_faults(&numbers(set))).collect()
 }
 
-fn with_faults(has: impl Fn(u64) -> bool) -> Tables {
+/// Which one of 51 to 54 stands in a set goes by the others in it, so that each of the four meets every
+/// two of these: both, only one, only the other, neither.
+fn numbers(set: u64) -> Vec<u64> {
+    let odd = |bits: u64| u64::from((set & bits).count_ones() % 2);
+    // Whether it has an odd number of 2, 3, 4, and of 4, 6, 7.
+    let of_a_pair = 51 + 2 * odd(0b000_111) + odd(0b110_100);
+    let all = [2, 3, 4, of_a_pair, 6, 7];
+    (0..6).filter(|&bit| set >> bit & 1 == 1).map(|bit| all[bit]).collect()
+}
+
+fn with_faults(numbers: &[u64]) -> Tables {
+    let has = |number: u64| numbers.contains(&number);
     let mut tables = sound();
+    for (number, last_pair) in [(51, [2, 255]), (52, [2, 2]), (53, [2, 1]), (54, [1, 2])] {
+        if has(number) {
+            tables = rows_to_fit(&[&tables.pairs[..6], &last_pair].concat());
+        }
+    }
     if has(3) {
         tables.sizes[3] = 65;
     }
     if has(2) {
         tables.sizes.resize(65, 1);
-    }
-    if has(5) {
-        tables.pairs.swap(6, 7);
     }
     if has(4) {
         tables.pairs.push(0);
@@ -37,11 +60,10 @@ fn with_faults(has: impl Fn(u64) -> bool) -> Tables {
     tables
 }
 
-/// Each kind of fault, with no other beside it.
+/// Each kind of fault of sizes, pair bytes and rows.
 pub fn kinds() -> Vec<Tables> {
     let mut all = sizes();
     all.extend(pair_bytes());
-    all.extend(pairs());
     all.extend(rows());
     all
 }
@@ -60,33 +82,6 @@ fn pair_bytes() -> Vec<Tables> {
     most.rows = vec![1; most.pairs.len() / 2];
     all.push(most);
     all
-}
-
-/// A pair turned, of one boat, naming no boat, equal to or below the one before; and several of them.
-fn pairs() -> Vec<Tables> {
-    let lists: [&[u8]; 11] = [
-        &[1, 0],
-        &[0, 1, 0, 2, 2, 1],
-        &[0, 1, 1, 1, 1, 2],
-        &[0, 1, 0, 4],
-        &[3, 4],
-        &[4, 5],
-        &[0, 255],
-        &[0, 1, 0, 1, 1, 2],
-        &[0, 2, 0, 1, 1, 2],
-        &[1, 2, 0, 3, 1, 3],
-        &[0, 1, 1, 2, 0, 2, 3, 3],
-    ];
-    lists.iter().map(|pairs| rows_to_fit(pairs)).collect()
-}
-
-/// As many rows as the pairs would take, all in range.
-fn rows_to_fit(pairs: &[u8]) -> Tables {
-    let mut tables = Tables { pairs: pairs.to_vec(), rows: Vec::new(), ..sound() };
-    let sizes = |boat: usize| tables.sizes.get(boat).copied().unwrap_or(0) as usize;
-    let due = tables.listed_pairs().map(|(lower, _)| sizes(lower)).sum();
-    tables.rows = vec![1; due];
-    tables
 }
 
 /// A word too few, too many, or none; and bits just past a size, at the top, and in several words.

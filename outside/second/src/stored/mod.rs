@@ -23,6 +23,7 @@
 //! the working words, and NOT_ZERO counts the words before it that are not 0.
 //! `second fresh` writes lines of the same two forms, about tables from any seed.
 
+mod bad_pairs;
 mod by_hand;
 mod faults;
 mod fresh;

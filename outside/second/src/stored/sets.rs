@@ -1,6 +1,6 @@
 //! Which tables are in the stored set; the seeds stand here, so that the set is always the same.
 
-use super::{by_hand, faults, plans, runs, Group, Question};
+use super::{bad_pairs, by_hand, faults, plans, runs, Group, Question};
 use crate::examine::examine;
 use crate::random::Random;
 use crate::shapes::random_tables;
@@ -25,10 +25,10 @@ const KINDS: [(&str, u64, usize); 7] = [
 const FAULTS: u64 = 9;
 
 /// Seed, and how many spoiled tables for each finding of the examination and for none.
-const SPOILED: (u64, usize) = (8, 12);
+const SPOILED: (u64, usize) = (10, 12);
 
-/// No finding, and numbers 2 to 7.
-const FINDINGS: [u64; 7] = [0, 2, 3, 4, 5, 6, 7];
+/// No finding, and the examination's numbers.
+const FINDINGS: [u64; 10] = [0, 2, 3, 4, 51, 52, 53, 54, 6, 7];
 
 pub fn groups() -> Vec<Group> {
     let mut groups = cases();
@@ -72,7 +72,7 @@ fn of_faults() -> Vec<Group> {
     for tables in faults::sets() {
         groups.push(group(&mut random, tables, runs::every_set));
     }
-    for tables in faults::kinds() {
+    for tables in faults::kinds().into_iter().chain(bad_pairs::all()) {
         groups.push(group(&mut random, tables, |_, tables| runs::plainly(tables)));
     }
     groups

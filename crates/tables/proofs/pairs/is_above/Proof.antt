@@ -4,7 +4,7 @@ use borrow.Author.Needs.{needs}
 use borrow.Author.Tests.{ne-eqb}
 use native.Mathlib.Omega.{arith}
 use lib.Dec.{ltb}
-use Rattle.tables.proofs.Causes.{above-lower, above-higher, above-neither}
+use Rattle.tables.proofs.Ways.{above-lower, above-higher, above-neither}
 use Rattle.tables.proofs.pairs.is_above.Statement.{statement}
 use Rattle.tables.proofs.pairs.is_above.Tie as tie
 

@@ -1,10 +1,12 @@
-//! Tables to be examined: numbers 2 to 7 with their places, several at once, and parts of rows.
+//! Tables to be examined: the examination's numbers with their places, several at once, and parts of rows.
 
 use super::{by, by_all, group, plan, rows, Group, AMPLE, ROOMY};
+use crate::tables::MOST_PAIRS;
 
 pub fn groups() -> Vec<Group> {
     let mut groups = of_sizes();
     groups.extend(of_pairs());
+    groups.extend(of_bad_pairs());
     groups.extend(of_rows());
     groups.extend(of_top_bits());
     groups.extend(of_several());
@@ -37,7 +39,28 @@ fn of_pairs() -> Vec<Group> {
         ("pairs 0-1, 1-2, 0-2", &[0, 1, 1, 2, 0, 2]),
         ("pairs 0-1, 2-1, 1-0", &[0, 1, 2, 1, 1, 0]),
     ];
-    lists.into_iter().map(|(name, pairs)| group(name, &[1, 1, 1], pairs, &[], vec![])).collect()
+    lists.into_iter().map(of_three_boats).collect()
+}
+
+fn of_three_boats((name, pairs): (&str, &[u8])) -> Group {
+    group(name, &[1, 1, 1], pairs, &[], vec![])
+}
+
+/// Which pair speaks, which of its faults, and which of its bytes.
+fn of_bad_pairs() -> Vec<Group> {
+    let equal = [0, 1].repeat(MOST_PAIRS + 1);
+    let lists: [(&str, &[u8]); 9] = [
+        ("pairs 0-1, 0-9 of 3 boats", &[0, 1, 0, 9]),
+        ("pair 9-9 of 3 boats", &[9, 9]),
+        ("pair 9-0 of 3 boats", &[9, 0]),
+        ("pair 0-9 of 3 boats", &[0, 9]),
+        ("pairs 1-0, 9-9 of 3 boats", &[1, 0, 9, 9]),
+        ("pairs 1-2, 0-0", &[1, 2, 0, 0]),
+        ("pairs 1-2, 1-0", &[1, 2, 1, 0]),
+        ("pairs 1-2, 0-9 of 3 boats", &[1, 2, 0, 9]),
+        ("2017 equal pairs", &equal),
+    ];
+    lists.into_iter().map(of_three_boats).collect()
 }
 
 fn of_rows() -> Vec<Group> {
@@ -79,6 +102,7 @@ fn of_several() -> Vec<Group> {
         group("size 0, odd pair bytes", &[0, 1], &[1, 0, 9], &wide, vec![]),
         group("odd pair bytes, pair 1-0", &[1, 1], &[1, 0, 9], &wide, vec![]),
         group("pair 1-0, two rows for one", &[1, 1], &[1, 0], &wide, vec![]),
+        group("pair 0-2 of 2 boats, two rows for one, high bits", &[1, 1], &[0, 2], &wide, vec![]),
         group("two rows for one, high bits", &[1, 1], &[0, 1], &wide, vec![]),
         group("", &[2, 2, 2], &[0, 1, 0, 2, 1, 2], &[4, 1, 2, 1, 2, 1], judged),
     ]

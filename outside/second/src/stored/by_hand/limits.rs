@@ -40,10 +40,13 @@ fn first_and_last(words: usize) -> Vec<u64> {
 fn of_size_1() -> Vec<Group> {
     let rows = [1; MOST_PAIRS];
     let past = |more: &[u8]| [&all_pairs(), more].concat();
+    let mut last_of_none = all_pairs();
+    last_of_none[2 * MOST_PAIRS - 1] = MOST_BOATS as u8;
     vec![
         group("65 boats, 2016 pairs, 2016 row words", &[1; 65], &all_pairs(), &rows, vec![]),
         group("2016 pairs and a byte", &[1; 64], &past(&[0]), &rows, vec![]),
         group("2017 pairs", &[1; 64], &past(&[0, 0]), &rows, vec![]),
+        group("2016 pairs, the last 62-64", &[1; 64], &last_of_none, &[], vec![]),
         group("the last boat of size 65", &last_of(1, 65), &all_pairs(), &rows, vec![]),
     ]
 }

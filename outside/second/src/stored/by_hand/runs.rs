@@ -1,5 +1,5 @@
-//! Runs on tables of their own: at the limits, with long counts, and with numbers 2 to 7, alone and
-//! before other numbers.
+//! Runs on tables of their own: at the limits, with long counts, and with the examination's numbers,
+//! alone and before other numbers.
 
 use super::{by, by_all, group, Group, AMPLE, ROOMY};
 
