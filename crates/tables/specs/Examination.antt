@@ -22,11 +22,11 @@ badSize sizes i = eqb (size sizes i) 0 || ltb 64 (size sizes i)
 abbrev pub badPairBytes : List ℕ → Bool
 badPairBytes pairs = eqb (length pairs % 2) 1 || ltb 4032 (length pairs)
 
--- 51: a byte of a pair names no boat
+-- 51: a boat that does not exist
 abbrev pub namesNoBoat : (n byte : ℕ) → Bool
 namesNoBoat n byte = leb n byte
 
--- 52: both boats of a pair are the same
+-- 52: both boats the same
 abbrev pub sameBoat : List ℕ → ℕ → Bool
 sameBoat pairs k = eqb (lower pairs k) (higher pairs k)
 
@@ -54,6 +54,7 @@ waysBad n pairs k =
     ∷ fault 54 (2 * k) (notAbovePairBefore pairs k)
     ∷ []
 
+-- the first of them that applies
 unfoldable pub wayBad : (n : ℕ) → List ℕ → ℕ → Fault
 wayBad n pairs k = firstFault (waysBad n pairs k)
 

@@ -18,12 +18,12 @@ fault number place cause = record { cause = cause; number = number; place = plac
 abbrev pub says : Fault → Told
 says f = refused (f .number) (f .place)
 
--- of several faults, in their order, the first whose cause is there; without a cause where there is none
+-- of several faults, in their order, the first whose cause is there; where there is none, one without a cause
 abbrev pub firstFault : List Fault → Fault
 firstFault [] = fault 0 0 false
 firstFault (f ∷ fs) = elim (f .cause) [ true ↦ f | false ↦ firstFault fs ]
 
--- a test looks for its fault at 0, 1, .. places - 1, the lowest first
+-- a test looks for its fault at the places 0, 1, .. places - 1, the lowest first
 pub record Test : Type 0 where
   pub places : ℕ
   pub at : ℕ → Fault
@@ -32,15 +32,15 @@ pub record Test : Type 0 where
 abbrev pub once : (number : ℕ) → Bool → Test
 once number cause = record { places = 1; at = λ k. fault number 0 cause }
 
--- a test of each of so many places, which its refusal names
+-- a test of each of so many places, which the refusal names
 abbrev pub each : (number places : ℕ) → (ℕ → Bool) → Test
 each number places cause = record { places = places; at = λ k. fault number k (cause k) }
 
--- a test whose refusal at k is what is at fault there
+-- a test of each of so many places, whose refusals have a number and a place of their own
 abbrev pub eachWay : (places : ℕ) → (ℕ → Fault) → Test
 eachWay places way = record { places = places; at = way }
 
--- the lowest where its cause is there; `places` where it is nowhere
+-- the lowest place where its cause is there; `places` where it is nowhere
 abbrev pub found : Test → ℕ
 found test = lowest (test .places) (λ k. test .at k .cause)
 
