@@ -6,7 +6,7 @@
  *           lower boat, then by higher
  *   rows    for each pair, in order, one word for each slot of the lower boat: bit b is set where
  *           the higher boat may take its slot b beside it
- * Boats, slots, pairs and words, and so all places, count from 0. A pair that is not listed allows
+ * Boats, slots, pairs, bytes and words, and so all places, count from 0. A pair that is not listed allows
  * everything.
  *
  * What a caller owes, in every call: each part is valid for its length (for writing too, where it
@@ -38,8 +38,8 @@ extern "C" {
 
 /* The version of this header, and of the library that it belongs to: a program is to be built anew
  * where the first number has changed. */
-#define HARBOUR_VERSION "1.0.0"
-#define HARBOUR_VERSION_NUMBER 10000    /* 10,000 times the first, 100 times the second, the third */
+#define HARBOUR_VERSION "2.0.0"
+#define HARBOUR_VERSION_NUMBER 20000    /* 10,000 times the first, 100 times the second, the third */
 
 /* limits */
 #define HARBOUR_BOATS 64      /* boats of a harbour */
@@ -70,19 +70,23 @@ extern "C" {
 #define HARBOUR_UNBROKEN UINT64_C(0)
 #define HARBOUR_BROKEN UINT64_C(1)                 /* place: the index of the lowest broken pair */
 
-/* refusals, in the order in which they are tested: 100 and the number that the papers give */
-#define HARBOUR_REFUSED UINT64_C(100)                 /* what is added to a refusal's number */
-#define HARBOUR_REFUSED_METHOD UINT64_C(101)          /* no method has this number */
-#define HARBOUR_REFUSED_BOATS UINT64_C(102)           /* more than 64 boats */
-#define HARBOUR_REFUSED_SIZE UINT64_C(103)            /* a size is 0 or above 64; place: the boat */
-#define HARBOUR_REFUSED_PAIR_BYTES UINT64_C(104)      /* the pairs' bytes are odd in number or above 4,032 */
-#define HARBOUR_REFUSED_PAIR UINT64_C(105)            /* not lower then higher, no boat, or not rising; place: the pair */
-#define HARBOUR_REFUSED_ROW_WORDS UINT64_C(106)       /* not one word for each slot of each lower boat */
-#define HARBOUR_REFUSED_ROW_BIT UINT64_C(107)         /* a bit past the higher boat's slots; place: the word */
-#define HARBOUR_REFUSED_PLAN_MEMORY UINT64_C(108)     /* fewer plan bytes than boats */
-#define HARBOUR_REFUSED_WORK_MEMORY UINT64_C(109)     /* fewer than 8,192 working words */
-#define HARBOUR_REFUSED_GIVEN_LENGTH UINT64_C(110)    /* the given plan has not one byte for each boat */
-#define HARBOUR_REFUSED_GIVEN_SLOT UINT64_C(111)      /* a given slot is past its boat's; place: the boat */
+/* refusals, in the order in which they are tested: 100 and the number that the papers give. 151 to 154
+ * are tested in that order at each pair, the lowest pair first */
+#define HARBOUR_REFUSED UINT64_C(100)                    /* what is added to a refusal's number */
+#define HARBOUR_REFUSED_METHOD UINT64_C(101)             /* no method has this number */
+#define HARBOUR_REFUSED_BOATS UINT64_C(102)              /* more than 64 boats */
+#define HARBOUR_REFUSED_SIZE UINT64_C(103)               /* a size is 0 or above 64; place: the boat */
+#define HARBOUR_REFUSED_PAIR_BYTES UINT64_C(104)         /* the pairs' bytes are odd in number or above 4,032 */
+#define HARBOUR_REFUSED_PAIR_NO_BOAT UINT64_C(151)       /* a pair byte names no boat; place: that byte */
+#define HARBOUR_REFUSED_PAIR_SAME_BOAT UINT64_C(152)     /* a pair names one boat twice; place: its second byte */
+#define HARBOUR_REFUSED_PAIR_HIGHER_FIRST UINT64_C(153)  /* a pair has the higher boat first; place: its first byte */
+#define HARBOUR_REFUSED_PAIR_NOT_RISING UINT64_C(154)    /* a pair is not above the one before; place: its first byte */
+#define HARBOUR_REFUSED_ROW_WORDS UINT64_C(106)          /* not one word for each slot of each lower boat */
+#define HARBOUR_REFUSED_ROW_BIT UINT64_C(107)            /* a bit past the higher boat's slots; place: the word */
+#define HARBOUR_REFUSED_PLAN_MEMORY UINT64_C(108)        /* fewer plan bytes than boats */
+#define HARBOUR_REFUSED_WORK_MEMORY UINT64_C(109)        /* fewer than 8,192 working words */
+#define HARBOUR_REFUSED_GIVEN_LENGTH UINT64_C(110)       /* the given plan has not one byte for each boat */
+#define HARBOUR_REFUSED_GIVEN_SLOT UINT64_C(111)         /* a given slot is past its boat's; place: the boat */
 
 /* answer of the functions that end in _t alone: something is owed, and nothing was called; place: the
  * index of the pointer at fault, from 0, among the plain function's parameters */
@@ -273,7 +277,10 @@ static inline const char *harbour_cause(uint64_t answer) {
     case HARBOUR_REFUSED_BOATS: return "there are more than 64 boats";
     case HARBOUR_REFUSED_SIZE: return "it has no slot, or more than 64";
     case HARBOUR_REFUSED_PAIR_BYTES: return "the pairs have an odd number of bytes, or more than 4032";
-    case HARBOUR_REFUSED_PAIR: return "it is not lower boat first, names a boat that is not there, or is not above the pair before";
+    case HARBOUR_REFUSED_PAIR_NO_BOAT: return "it names a boat that is not there";
+    case HARBOUR_REFUSED_PAIR_SAME_BOAT: return "it names the same boat as the byte before";
+    case HARBOUR_REFUSED_PAIR_HIGHER_FIRST: return "the pair that begins there names the higher boat first";
+    case HARBOUR_REFUSED_PAIR_NOT_RISING: return "the pair that begins there is equal to or below the pair before";
     case HARBOUR_REFUSED_ROW_WORDS: return "the rows are too few or too many for the pairs";
     case HARBOUR_REFUSED_ROW_BIT: return "it allows a slot that the higher boat does not have";
     case HARBOUR_REFUSED_PLAN_MEMORY: return "the plan's memory has fewer bytes than there are boats";
@@ -288,7 +295,10 @@ static inline const char *harbour_cause(uint64_t answer) {
 static inline const char *harbour_place_names(uint64_t answer) {
     switch (answer) {
     case HARBOUR_REFUSED_SIZE: return "boat";
-    case HARBOUR_REFUSED_PAIR: return "pair";
+    case HARBOUR_REFUSED_PAIR_NO_BOAT:
+    case HARBOUR_REFUSED_PAIR_SAME_BOAT:
+    case HARBOUR_REFUSED_PAIR_HIGHER_FIRST:
+    case HARBOUR_REFUSED_PAIR_NOT_RISING: return "pair byte";
     case HARBOUR_REFUSED_ROW_BIT: return "row word";
     case HARBOUR_REFUSED_GIVEN_SLOT: return "boat";
     default: return NULL;

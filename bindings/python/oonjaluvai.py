@@ -15,7 +15,7 @@ import os
 from itertools import chain
 from typing import Any, Iterable, NamedTuple, Optional, Sequence, SupportsIndex, Tuple
 
-__version__ = "1.0.0"  # that of the library; only another first number means another library
+__version__ = "2.0.0"  # that of the library; only another first number means another library
 
 __all__ = ["BT", "CBJ", "BM", "FC", "FC_CBJ", "AMPLE", "Tables", "Decided", "Refused", "Undecided"]
 
@@ -34,7 +34,10 @@ _CAUSES = {
     2: "there are more than 64 boats",
     3: "boat {} has no slot, or more than 64",
     4: "there are more than 2,016 pairs",
-    5: "pair {} is not lower boat then higher, names a boat that is not there, or is not above the pair before it",
+    51: "byte {0} of the pairs, in pair {1}, names a boat that is not there",
+    52: "byte {0} of the pairs, in pair {1}, names the same boat as the byte before it",
+    53: "the pair at byte {0} of the pairs, pair {1}, names the higher boat first",
+    54: "the pair at byte {0} of the pairs, pair {1}, is equal to or below the pair before it",
     _ROW_WORDS: "the rows are not, for each pair, one for each slot of its lower boat",
     _ROW_BIT: "row {}, counted over all pairs, has a bit for a slot that the higher boat does not have",
     8: "the plan's memory has fewer bytes than there are boats",
@@ -45,14 +48,17 @@ _CAUSES = {
 
 
 class Refused(ValueError):
-    """What the library refuses: number 1 to 11, and the place of it, 0 where none is named."""
+    """What the library refuses: its number (1 to 4, 51 to 54, 6 to 11), and the place of it, 0 where none is named.
+
+    The place of 51 to 54 is a byte of the pairs, two bytes to a pair.
+    """
 
     def __init__(self, number: int, place: int) -> None:
         super().__init__(number, place)  # not the message: an exception is copied and pickled by its arguments
         self.number, self.place = number, place
 
     def __str__(self) -> str:
-        cause = _CAUSES.get(self.number, "at place {}").format(self.place)
+        cause = _CAUSES.get(self.number, "at place {}").format(self.place, self.place // 2)
         return f"refused, number {self.number}: {cause}"
 
 

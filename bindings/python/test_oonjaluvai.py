@@ -1,4 +1,4 @@
-"""Tries each promise of oonjaluvai.py:  HARBOUR_LIBRARY=path/of/libharbour.so.1 python3 -B -m unittest -q"""
+"""Tries each promise of oonjaluvai.py:  HARBOUR_LIBRARY=path/of/libharbour.so.2 python3 -B -m unittest -q"""
 
 import _ctypes
 import copy
@@ -196,9 +196,13 @@ class Refusals(Trying):
         self.refused(4, 0, Tables, [1] * 64, pairs + [(0, 0)], rows)
 
     def test_pairs(self):
-        for pairs, at in (([(1, 0)], 0), ([(1, 1)], 0), ([(0, 1), (0, 3)], 1), ([(0, 1), (0, 1)], 1),
-                          ([(0, 2), (0, 1)], 1), ([(1, 2), (0, 1), (2, 1)], 1), ([(0, 1), (0, 2), (2, 255)], 2)):
-            self.refused(5, at, Tables, (2, 2, 2), pairs, [APART] * len(pairs))
+        for pairs, number, byte in (
+                ([(3, 0)], 51, 0), ([(0, 3)], 51, 1), ([(9, 9)], 51, 0), ([(0, 1), (0, 3)], 51, 3),
+                ([(0, 1), (0, 2), (2, 255)], 51, 5), ([(1, 2), (0, 9)], 51, 3),
+                ([(1, 1)], 52, 1), ([(0, 1), (0, 0)], 52, 3), ([(1, 2), (0, 0)], 52, 3),
+                ([(1, 0)], 53, 0), ([(1, 2), (1, 0)], 53, 2), ([(1, 0), (9, 9)], 53, 0),
+                ([(0, 1), (0, 1)], 54, 2), ([(0, 2), (0, 1)], 54, 2), ([(1, 2), (0, 1), (2, 1)], 54, 2)):
+            self.refused(number, byte, Tables, (2, 2, 2), pairs, [APART] * len(pairs))
 
     def test_too_few_or_too_many_rows(self):
         for rows in ([], [[]], [[1]], [[1, 1, 1]], [[1, 1], []], [[1, 1], [1, 1]], [[1], [1]], [[], [1, 1]]):
@@ -218,15 +222,16 @@ class Refusals(Trying):
                            ([[0, 1 << 63], [2, 2]], 1)):
             self.refused(7, word, Tables, (2, 2, 1), pairs, rows)
 
-    def test_the_lowest_number_comes_first(self):
+    def test_the_first_test_that_applies_speaks(self):
         shifted, bit = [[1, 1, 1], [1]], 1 << 63
         self.refused(2, 0, Tables, [0] * 65, [(1, 0)], [[1]])
         self.refused(3, 2, Tables, (2, 2, 0), [(0, 1), (0, 2)], shifted)
         self.refused(3, 1, Tables, (2, 0), [(0, 1)] * 2017, [])
         self.refused(4, 0, Tables, (2, 2), [(1, 0)] * 2017, [])
-        self.refused(5, 1, Tables, (2, 2, 2), [(0, 2), (0, 1)], shifted)
-        self.refused(5, 0, Tables, (2, 2), [(1, 0)], [[bit, bit, bit]])
-        self.refused(5, 0, Tables, (2, 2), [(7, 8)], [[]])
+        self.refused(54, 2, Tables, (2, 2, 2), [(0, 2), (0, 1)], shifted)
+        self.refused(53, 0, Tables, (2, 2), [(1, 0)], [[bit, bit, bit]])
+        self.refused(52, 1, Tables, (2, 2), [(1, 1)], [[bit]])
+        self.refused(51, 0, Tables, (2, 2), [(7, 8)], [[]])
         self.refused(6, 0, Tables, (2, 2), [(0, 1)], [[bit]])
         self.refused(6, 0, Tables, (2, 2, 2), [(0, 1), (0, 2)], [[bit, bit, bit], [bit]])
 
@@ -355,13 +360,15 @@ class Memory(Trying):
 
 class Exceptions(Trying):
     def test_a_refusal_is_told_in_one_line_with_its_place(self):
-        for number in range(1, 12):
+        for number in (1, 2, 3, 4, 51, 52, 53, 54, 6, 7, 8, 9, 10, 11):
             told = str(Refused(number, 47))
             self.assertIn(f"number {number}:", told)
             self.assertNotIn("\n", told)
             self.assertNotIn("{", told)
-            self.assertEqual("47" in told, number in (3, 5, 7, 11))
-        self.assertEqual(str(Refused(12, 47)), "refused, number 12: at place 47")
+            self.assertEqual("47" in told, number in (3, 51, 52, 53, 54, 7, 11))
+            self.assertEqual("pair 23" in told, number in (51, 52, 53, 54))
+        for number in (5, 12, 50, 55):
+            self.assertEqual(str(Refused(number, 47)), f"refused, number {number}: at place 47")
 
     def test_undecided_is_told_as_undecided(self):
         for allowance in ("checks", "trials"):
@@ -437,7 +444,7 @@ class Loading(unittest.TestCase):
 
     def test_a_missing_library(self):
         with tempfile.TemporaryDirectory() as folder:
-            missing = os.path.join(folder, "libharbour.so.1")
+            missing = os.path.join(folder, "libharbour.so.2")
             self.says_what_helps(self.imported(missing), missing)
 
     def test_a_library_without_the_functions(self):
@@ -449,14 +456,14 @@ class Loading(unittest.TestCase):
 
     def test_the_loader_is_asked_where_nothing_is_named(self):
         with tempfile.TemporaryDirectory() as folder:
-            open(os.path.join(folder, "libharbour.so.1"), "w").close()
+            open(os.path.join(folder, "libharbour.so.2"), "w").close()
             for unnamed in (None, ""):
-                self.says_what_helps(self.imported(unnamed, LD_LIBRARY_PATH=folder), "libharbour.so.1")
+                self.says_what_helps(self.imported(unnamed, LD_LIBRARY_PATH=folder), "libharbour.so.2")
 
     @unittest.skipUnless(os.environ.get("HARBOUR_LIBRARY"), "needs the path of a library")
     def test_the_loader_finds_it(self):
         with tempfile.TemporaryDirectory() as folder:
-            os.symlink(os.path.abspath(os.environ["HARBOUR_LIBRARY"]), os.path.join(folder, "libharbour.so.1"))
+            os.symlink(os.path.abspath(os.environ["HARBOUR_LIBRARY"]), os.path.join(folder, "libharbour.so.2"))
             self.assertEqual(self.imported(None, LD_LIBRARY_PATH=folder), "loaded")
 
 
