@@ -7,32 +7,27 @@ static const char *boat_named(const problem *of, uint8_t boat) {
     return boat < of->port->n ? of->port->boats[boat].name : "a boat that is not there";
 }
 
-/* The pair of which a byte is at fault, and what it has to be. */
-static void say_pair(const problem *of, uint64_t byte, const char *rule) {
-    const uint64_t first = byte - byte % 2;
-    const uint8_t *pair = of->draft.pairs + first;
-    printf("  Bytes %" PRIu64 " and %" PRIu64 " are %s, then %s. %s.\n", first, first + 1, boat_named(of, pair[0]),
-        boat_named(of, pair[1]), rule);
+/* What a pair has to be, by the refusal that it is not; NULL for other refusals. */
+static const char *rule_of_pairs(uint64_t answer) {
+    switch (answer) {
+    case HARBOUR_REFUSED_PAIR_NO_BOAT: return "A pair is of boats in the list";
+    case HARBOUR_REFUSED_PAIR_SAME_BOAT: return "A pair is of two boats";
+    case HARBOUR_REFUSED_PAIR_HIGHER_FIRST: return "The boat that is listed first comes first";
+    case HARBOUR_REFUSED_PAIR_NOT_RISING: return "Pairs follow as their boats are listed, each once";
+    default: return NULL;
+    }
 }
 
 /* The boats behind a refusal's place. */
 static void say_boats(const problem *of, harbour_reply reply) {
-    switch (reply.answer) {
-    case HARBOUR_REFUSED_SIZE:
+    const char *const rule = rule_of_pairs(reply.answer);
+    if (rule != NULL) {
+        const uint64_t first = reply.place - reply.place % 2;
+        const uint8_t *const pair = of->draft.pairs + first;
+        printf("  Bytes %" PRIu64 " and %" PRIu64 " are %s, then %s. %s.\n", first, first + 1,
+            boat_named(of, pair[0]), boat_named(of, pair[1]), rule);
+    } else if (reply.answer == HARBOUR_REFUSED_SIZE) {
         printf("  Boat %" PRIu64 " is %s.\n", reply.place, boat_named(of, (uint8_t)reply.place));
-        return;
-    case HARBOUR_REFUSED_PAIR_NO_BOAT:
-        say_pair(of, reply.place, "A pair is of boats in the list");
-        return;
-    case HARBOUR_REFUSED_PAIR_SAME_BOAT:
-        say_pair(of, reply.place, "A pair is of two boats");
-        return;
-    case HARBOUR_REFUSED_PAIR_HIGHER_FIRST:
-        say_pair(of, reply.place, "The boat that is listed first comes first");
-        return;
-    case HARBOUR_REFUSED_PAIR_NOT_RISING:
-        say_pair(of, reply.place, "Pairs follow as their boats are listed, each once");
-        return;
     }
 }
 

@@ -7,10 +7,6 @@ pub or-here : (a b : Bool) → a ≡ true → (a || b) ≡ true
 or-here true b e = refl
 or-here false b e = absurd (not-both e refl)
 
-pub or-there : (a b : Bool) → b ≡ true → (a || b) ≡ true
-or-there true b e = refl
-or-there false b e = e
-
 pub or-rest : (a b : Bool) → a ≡ false → (a || b) ≡ b
 or-rest true b e = absurd (not-both refl e)
 or-rest false b e = refl

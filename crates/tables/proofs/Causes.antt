@@ -1,19 +1,15 @@
 -- The causes of numbers 3 and 4, from the facts that the code tests, and back.
-use mathlib.Core.Path.{_≡_, refl, ap, _∙_}
-use mathlib.Core.Logic.{inl, inr, ⊎-elim}
-use mathlib.Core.Bool.{Bool, true, false, not, _&&_, _||_}
+use mathlib.Core.Path.{_≡_}
+use mathlib.Core.Bool.{false}
 use mathlib.Core.List.{List}
-use Prim.Native.Nat.{ℕ, zero, suc, _-_, _*_, _%_, _≤_, _<_}
-use native.Mathlib.Nat.{eq-or-lt-of-le, le-of-suc-le-suc}
+use Prim.Native.Nat.{ℕ, _-_, _*_, _%_, _≤_, _<_}
 use native.Mathlib.Omega.{arith}
-use borrow.Author.Tests.{ltb-true, ltb-false, leb-false, eqb-true, eqb-false, not-false, lt-ltb, le-ltb, le-leb, lt-leb, eq-eqb, ne-eqb}
-use lib.Dec.{ltb, leb, eqb}
+use borrow.Author.Tests.{ltb-false, eqb-false, le-ltb, ne-eqb}
+use lib.Dec.{ltb, eqb}
 use lib.ListN.{length}
-use Rattle.problem.specs.Tables.{size, listed, lower, higher}
-use Rattle.problem.specs.Rising.{Rising, Precedes}
-use Rattle.problem.proofs.Places.{both-true}
+use Rattle.problem.specs.Tables.{size, listed}
 use Rattle.tables.specs.Examination.{badSize, badPairBytes}
-use Rattle.tables.proofs.Bools.{or-here, or-there, or-rest, or-neither, neither-or, passes-not}
+use Rattle.tables.proofs.Bools.{or-neither, neither-or}
 
 -- ---- 3: a size
 module _ (sizes : List ℕ) (i : ℕ) where

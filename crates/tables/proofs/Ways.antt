@@ -18,7 +18,7 @@ use Rattle.problem.proofs.Places.{both-true}
 use Rattle.tables.specs.declared.pairs.Way.the-variants.{Good, Bad}
 use Rattle.tables.specs.Tests.{Fault, fault, firstFault, says, Test}
 use Rattle.tables.specs.Applies.{Fails}
-use Rattle.tables.specs.Examination.{namesNoBoat, sameBoat, higherFirst, isAbove, notAbovePairBefore, waysBad, wayBad}
+use Rattle.tables.specs.Examination.{namesNoBoat, sameBoat, higherFirst, isAbove, notAbovePairBefore, wayBad}
 use Rattle.tables.specs.Ways.{IsWay, IsFirst}
 use Rattle.tables.proofs.Bools.{or-here, or-rest, passes-not}
 
