@@ -22,10 +22,8 @@ static const char *rule_of_pairs(uint64_t answer) {
 static void say_boats(const problem *of, harbour_reply reply) {
     const char *const rule = rule_of_pairs(reply.answer);
     if (rule != NULL) {
-        const uint64_t first = reply.place - reply.place % 2;
-        const uint8_t *const pair = of->draft.pairs + first;
-        printf("  Bytes %" PRIu64 " and %" PRIu64 " are %s, then %s. %s.\n", first, first + 1,
-            boat_named(of, pair[0]), boat_named(of, pair[1]), rule);
+        const uint8_t *const pair = of->draft.pairs + (reply.place - reply.place % 2);
+        printf("  The pair is %s, then %s. %s.\n", boat_named(of, pair[0]), boat_named(of, pair[1]), rule);
     } else if (reply.answer == HARBOUR_REFUSED_SIZE) {
         printf("  Boat %" PRIu64 " is %s.\n", reply.place, boat_named(of, (uint8_t)reply.place));
     }

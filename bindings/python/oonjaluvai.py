@@ -28,6 +28,7 @@ _FINE = _LAWFUL = _UNBROKEN = _SOLVED = 0
 _UNLAWFUL = _BROKEN = _NO_PLAN = 1
 _ALLOWANCES = {2: "checks", 3: "trials"}  # by the answer that says which one ran out
 _REFUSED = 100  # what the library adds to a refusal's number
+_OF_PAIRS = (51, 52, 53, 54)
 _ROW_WORDS, _ROW_BIT = 6, 7
 _CAUSES = {
     1: "no method has this number",
@@ -50,15 +51,20 @@ _CAUSES = {
 class Refused(ValueError):
     """What the library refuses: its number (1 to 4, 51 to 54, 6 to 11), and the place of it, 0 where none is named.
 
-    The place of 51 to 54 is a byte of the pairs, two bytes to a pair.
+    The place of 51 to 54 is a byte of the pairs, two bytes to a pair; pair says which.
     """
 
     def __init__(self, number: int, place: int) -> None:
         super().__init__(number, place)  # not the message: an exception is copied and pickled by its arguments
         self.number, self.place = number, place
 
+    @property
+    def pair(self) -> Optional[int]:
+        """The index of the pair at fault, for 51 to 54; None for all other numbers."""
+        return self.place // 2 if self.number in _OF_PAIRS else None
+
     def __str__(self) -> str:
-        cause = _CAUSES.get(self.number, "at place {}").format(self.place, self.place // 2)
+        cause = _CAUSES.get(self.number, "at place {}").format(self.place, self.pair)
         return f"refused, number {self.number}: {cause}"
 
 

@@ -370,6 +370,12 @@ class Exceptions(Trying):
         for number in (5, 12, 50, 55):
             self.assertEqual(str(Refused(number, 47)), f"refused, number {number}: at place 47")
 
+    def test_a_refusal_names_the_pair_of_its_byte(self):
+        for number in (51, 52, 53, 54):
+            self.assertEqual([Refused(number, byte).pair for byte in (0, 1, 2, 4031)], [0, 0, 1, 2015])
+        for number in (1, 2, 3, 4, 5, 6, 7, 8, 9, 10, 11, 50, 55):
+            self.assertIsNone(Refused(number, 47).pair)
+
     def test_undecided_is_told_as_undecided(self):
         for allowance in ("checks", "trials"):
             told = str(Undecided(allowance, 123, 456))

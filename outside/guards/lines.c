@@ -21,8 +21,8 @@ static void largest_numbers(void) {
     const harbour_reply undecided = {3, 0, UINT64_MAX, UINT64_MAX}, pair = {154, UINT64_MAX, 0, 0};
     says_of(harbour_say_run, undecided, "undecided after 18446744073709551615 checks and 18446744073709551615 trials: the "
         "trials allowed are used up, and a plan may exist or not");
-    says_of(harbour_say_examine, pair, "refused, number 54 at pair byte 18446744073709551615: the pair that begins there "
-        "is equal to or below the pair before");
+    says_of(harbour_say_examine, pair, "refused, number 54 at pair byte 18446744073709551615, in pair "
+        "9223372036854775807: the pair is equal to or below the one before it");
 }
 
 static void answers(void) {
@@ -49,10 +49,11 @@ static const struct {
     {102, 0, "refused, number 2: there are more than 64 boats"},
     {103, 7, "refused, number 3 at boat 7: it has no slot, or more than 64"},
     {104, 0, "refused, number 4: the pairs have an odd number of bytes, or more than 4032"},
-    {151, 8, "refused, number 51 at pair byte 8: it names a boat that is not there"},
-    {152, 9, "refused, number 52 at pair byte 9: it names the same boat as the byte before"},
-    {153, 8, "refused, number 53 at pair byte 8: the pair that begins there names the higher boat first"},
-    {154, 8, "refused, number 54 at pair byte 8: the pair that begins there is equal to or below the pair before"},
+    {151, 8, "refused, number 51 at pair byte 8, in pair 4: the byte names a boat that is not there"},
+    {151, 9, "refused, number 51 at pair byte 9, in pair 4: the byte names a boat that is not there"},
+    {152, 9, "refused, number 52 at pair byte 9, in pair 4: the byte names the same boat as the one before it"},
+    {153, 8, "refused, number 53 at pair byte 8, in pair 4: the pair has the higher boat first"},
+    {154, 8, "refused, number 54 at pair byte 8, in pair 4: the pair is equal to or below the one before it"},
     {106, 0, "refused, number 6: the rows are too few or too many for the pairs"},
     {107, 9, "refused, number 7 at row word 9: it allows a slot that the higher boat does not have"},
     {108, 0, "refused, number 8: the plan's memory has fewer bytes than there are boats"},

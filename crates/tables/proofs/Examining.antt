@@ -24,20 +24,20 @@ use Rattle.tables.proofs.Ways.{good-pair}
 
 -- ---- a list of tests
 module _ (test : Test) (rest : List Test) (o : Told) where
-  pub applies : found test < test .places → firstOf (test ∷ rest) o ≡ says (test .at (found test))
+  pub applies : found test < test .count → firstOf (test ∷ rest) o ≡ says (test .at (found test))
   unfolding firstOf
   applies l =
       ap (λ (b : Bool). elim b as (λ x. Told) [ true ↦ says (test .at (found test)) | false ↦ firstOf rest o ])
-      (lt-ltb (found test) (test .places) l)
+      (lt-ltb (found test) (test .count) l)
 
-  pub passes : test .places ≤ found test → firstOf (test ∷ rest) o ≡ firstOf rest o
+  pub passes : test .count ≤ found test → firstOf (test ∷ rest) o ≡ firstOf rest o
   unfolding firstOf
   passes l =
       ap (λ (b : Bool). elim b as (λ x. Told) [ true ↦ says (test .at (found test)) | false ↦ firstOf rest o ])
-      (le-ltb (found test) (test .places) l)
+      (le-ltb (found test) (test .count) l)
 
   pub fails-passes : Fails test → firstOf (test ∷ rest) o ≡ firstOf rest o
-  fails-passes f = passes (omega (arith, lowest-none (test .places) (λ k. test .at k .cause) f))
+  fails-passes f = passes (omega (arith, lowest-none (test .count) (λ k. test .at k .cause) f))
 
 module _ (number : ℕ) (cause : Bool) (rest : List Test) (o : Told) where
   pub once-applies : cause ≡ true → firstOf (once number cause ∷ rest) o ≡ refused number 0

@@ -13,16 +13,16 @@ use Rattle.problem.specs.Replies.{Told, refused}
 use Rattle.problem.proofs.Lowest.{not-both}
 use Rattle.tables.specs.Tests.{Fault, firstFault, says, Test, once, each, firstOf}
 use Rattle.tables.specs.Applies.{NoneApplies, none, nor, Gives, here, later}
-use Rattle.tables.specs.Examination.{tooManyBoats, badSize, badPairBytes, notAbovePairBefore, waysBad, wayBad, badRowWords, badWord, tests, examination}
+use Rattle.tables.specs.Examination.{tooManyBoats, badSize, badPairBytes, notRising, waysBad, wayBad, badRowWords, badWord, tests, examination}
 use Rattle.tables.proofs.Bools.{or-neither, neither-or}
 use Rattle.tables.proofs.Ways.{fault-here, fault-later, way-good, good-pair}
 use Rattle.tables.proofs.Examining.{outcome}
 use Rattle.tables.proofs.Laws.{none-fine, gives-first, first-gives}
 
--- ---- the examination of document 01 alone
+-- ---- the examination of document 01 alone. What No. 1 left as it was is shared with the examination of now
 -- 5: a pair not lower-then-higher, naming no boat, or not above the pair before
 unfoldable pub badPair : (n : ℕ) → List ℕ → ℕ → Bool
-badPair n pairs k = leb (higher pairs k) (lower pairs k) || (leb n (lower pairs k) || leb n (higher pairs k)) || notAbovePairBefore pairs k
+badPair n pairs k = leb (higher pairs k) (lower pairs k) || (leb n (lower pairs k) || leb n (higher pairs k)) || notRising pairs k
 
 abbrev pub formerTests : Tables → List Test
 formerTests t =

@@ -23,22 +23,22 @@ none-fine ts o (nor {test} {tests} f n) = fails-passes test tests o f ∙ none-f
 
 pub gives-first : (ts : List Test) (o w : Told) → Gives ts w → firstOf ts o ≡ w
 gives-first ts o w (here {test} {tests} k l p f) =
-    let q = lowest-here (test .places) (λ j. test .at j .cause) k l f p in
+    let q = lowest-here (test .count) (λ j. test .at j .cause) k l f p in
     applies test tests o (omega arith) ∙ ap (λ j. says (test .at j)) q
 gives-first ts o w (later {test} {tests} f g) = fails-passes test tests o f ∙ gives-first tests o w g
 
 pub first-gives : (ts : List Test) (o : Told) → NoneApplies ts ⊎ Gives ts (firstOf ts o)
 first-gives [] o = inl none
-first-gives (test ∷ ts) o = by (ltb (found test) (test .places)) refl (first-gives ts o)
+first-gives (test ∷ ts) o = by (ltb (found test) (test .count)) refl (first-gives ts o)
   where
-    by : (b : Bool) → ltb (found test) (test .places) ≡ b → NoneApplies ts ⊎ Gives ts (firstOf ts o)
+    by : (b : Bool) → ltb (found test) (test .count) ≡ b → NoneApplies ts ⊎ Gives ts (firstOf ts o)
         → NoneApplies (test ∷ ts) ⊎ Gives (test ∷ ts) (firstOf (test ∷ ts) o)
     by true e rest =
         let l = ltb-true _ _ e in
-        inr (rw (applies test ts o l) (here _ l (lowest-passes (test .places) (λ k. test .at k .cause) l) (lowest-fails (test .places) (λ k. test .at k .cause))))
+        inr (rw (applies test ts o l) (here _ l (lowest-passes (test .count) (λ k. test .at k .cause) l) (lowest-fails (test .count) (λ k. test .at k .cause))))
     by false e rest =
         let l = ltb-false _ _ e in
-        let f = none-lowest (test .places) (λ k. test .at k .cause) l in
+        let f = none-lowest (test .count) (λ k. test .at k .cause) l in
         ⊎-elim (λ n. inl (nor f n)) (λ g. inr (rw (passes test ts o l) (later f g))) rest
 
 -- refusals count from 100, so that a lower number says that no test applies

@@ -18,7 +18,7 @@ use Rattle.problem.proofs.Places.{both-true}
 use Rattle.tables.specs.declared.pairs.Way.the-variants.{Good, Bad}
 use Rattle.tables.specs.Tests.{Fault, fault, firstFault, says, Test}
 use Rattle.tables.specs.Applies.{Fails}
-use Rattle.tables.specs.Examination.{namesNoBoat, sameBoat, higherFirst, isAbove, notAbovePairBefore, wayBad}
+use Rattle.tables.specs.Examination.{namesNoBoat, sameBoat, higherFirst, isAbove, notRising, wayBad}
 use Rattle.tables.specs.Ways.{IsWay, IsFirst}
 use Rattle.tables.proofs.Bools.{or-here, or-rest, passes-not}
 
@@ -37,16 +37,16 @@ module _ (f : Fault) (fs : List Fault) where
       by true c = absurd (not-both (ap (λ g. g .cause) (fault-here c) ∙ c) e)
       by false c = (c, sym (ap (λ g. g .cause) (fault-later c)) ∙ e)
 
--- ---- a look at all places of a test, the lowest first
+-- ---- a look at all that a test looks at, the lowest first
 module _ (test : Test) where
-  pub way-first : {k : ℕ} → k < test .places → ((j : ℕ) → j < k → test .at j .cause ≡ false) → (why : Refusal) → IsWay (Bad why) (test .at k)
+  pub way-first : {k : ℕ} → k < test .count → ((j : ℕ) → j < k → test .at j .cause ≡ false) → (why : Refusal) → IsWay (Bad why) (test .at k)
       → IsFirst (Bad why) test
   way-first l f why is =
-      let q = lowest-here (test .places) (λ j. test .at j .cause) _ l f (is .0) in
+      let q = lowest-here (test .count) (λ j. test .at j .cause) _ l f (is .0) in
       (omega (arith, q), is .1 ∙ sym (ap (λ j. says (test .at j)) q))
 
   pub way-nowhere : Fails test → IsFirst Good test
-  way-nowhere f = omega (arith, lowest-none (test .places) (λ j. test .at j .cause) f)
+  way-nowhere f = omega (arith, lowest-none (test .count) (λ j. test .at j .cause) f)
 
 -- ---- 54: a pair above another
 module _ (pairs : List ℕ) (k before : ℕ) where
@@ -75,10 +75,10 @@ module _ (pairs : List ℕ) (k before : ℕ) where
 
 -- ---- 54: the pair before
 module _ (pairs : List ℕ) where
-  pub none-before : (k : ℕ) → k ≡ 0 → notAbovePairBefore pairs k ≡ false
-  none-before k e = ap (notAbovePairBefore pairs) e
+  pub none-before : (k : ℕ) → k ≡ 0 → notRising pairs k ≡ false
+  none-before k e = ap (notRising pairs) e
 
-  pub one-before : (k : ℕ) → (k ≡ 0 → ⊥) → notAbovePairBefore pairs k ≡ not (isAbove pairs k (k - 1))
+  pub one-before : (k : ℕ) → (k ≡ 0 → ⊥) → notRising pairs k ≡ not (isAbove pairs k (k - 1))
   one-before zero n = absurd (n refl)
   one-before (suc k) n = let e : k ≡ suc k - 1 = omega arith in ap (λ j. not (isAbove pairs (suc k) j)) e
 
@@ -88,13 +88,13 @@ module _ (pairs : List ℕ) where
   precedes-trans i j k (inr p) (inl q) = inl (omega arith)
   precedes-trans i j k (inr p) (inr q) = inr (omega arith)
 
-  pub above-rising : ((k : ℕ) → k < listed pairs → notAbovePairBefore pairs k ≡ false) → Rising pairs
+  pub above-rising : ((k : ℕ) → k < listed pairs → notRising pairs k ≡ false) → Rising pairs
   above-rising above j zero h l = absurd (omega arith)
   above-rising above j (suc k) h l =
       let step = above-precedes pairs (suc k) k (not-false _ (above (suc k) l)) in
       ⊎-elim (λ e. rw e step) (λ i. precedes-trans j k (suc k) (above-rising above j k i (omega arith)) step) (eq-or-lt-of-le (le-of-suc-le-suc h))
 
-  pub rising-above : Rising pairs → (k : ℕ) → k < listed pairs → notAbovePairBefore pairs k ≡ false
+  pub rising-above : Rising pairs → (k : ℕ) → k < listed pairs → notRising pairs k ≡ false
   rising-above rising zero l = refl
   rising-above rising (suc k) l = passes-not _ (precedes-above pairs (suc k) k (rising k (suc k) (omega arith) l))
 
@@ -104,7 +104,7 @@ is-bad why e c s = (ap (λ x. x .cause) e ∙ c, s ∙ sym (ap says e))
 
 module _ (n : ℕ) (pairs : List ℕ) (k : ℕ) where
   abbrev is54 : Fault
-  is54 = fault 54 (2 * k) (notAbovePairBefore pairs k)
+  is54 = fault 54 (2 * k) (notRising pairs k)
 
   abbrev is53 : Fault
   is53 = fault 53 (2 * k) (higherFirst pairs k)
@@ -149,13 +149,13 @@ module _ (n : ℕ) (pairs : List ℕ) (k : ℕ) where
     past-53 : wayBad n pairs k ≡ firstFault (is54 ∷ [])
     past-53 = past-52 (omega arith) named (λ e. omega arith) ∙ fault-later is53 (is54 ∷ []) (le-ltb (higher pairs k) (lower pairs k) (omega arith))
 
-    pub way-54 : notAbovePairBefore pairs k ≡ true → IsWay (Bad (PairNotRising (2 * k))) (wayBad n pairs k)
+    pub way-54 : notRising pairs k ≡ true → IsWay (Bad (PairNotRising (2 * k))) (wayBad n pairs k)
     way-54 c = is-bad (PairNotRising (2 * k)) (past-53 ∙ fault-here is54 [] c) c refl
 
-    pub way-good : notAbovePairBefore pairs k ≡ false → IsWay Good (wayBad n pairs k)
+    pub way-good : notRising pairs k ≡ false → IsWay Good (wayBad n pairs k)
     way-good c = ap (λ x. x .cause) (past-53 ∙ fault-later is54 [] c)
 
-  pub good-pair : wayBad n pairs k .cause ≡ false → (lower pairs k < higher pairs k) × (higher pairs k < n) × (notAbovePairBefore pairs k ≡ false)
+  pub good-pair : wayBad n pairs k .cause ≡ false → (lower pairs k < higher pairs k) × (higher pairs k < n) × (notRising pairs k ≡ false)
   unfolding wayBad
   good-pair e =
       let a = faultless is51lower (is51higher ∷ is52 ∷ is53 ∷ is54 ∷ []) e in

@@ -9,7 +9,7 @@ use Rattle.problem.specs.Lowest.{lowestFrom, lowest, sum}
 use Rattle.problem.specs.Tables.{Tables, boats, listed, lower, higher, start}
 use Rattle.problem.specs.Replies.{Told, told, refused}
 use Rattle.tables.specs.Tests.{fault, Test, eachWay, firstOf}
-use Rattle.tables.specs.Examination.{namesNoBoat, sameBoat, higherFirst, notAbovePairBefore, wayBad, examination}
+use Rattle.tables.specs.Examination.{namesNoBoat, sameBoat, higherFirst, notRising, wayBad, examination}
 
 abbrev number : Told → ℕ
 number r = r .number
@@ -40,7 +40,7 @@ pub last-refused : refused 3 2 ≡ examination twoAtFault → ⊥
 unfolding examination firstOf lowest lowestFrom start sum
 last-refused e = eqb-false 2 0 refl (ap place e)
 
--- ---- three boats, and no pair of them good
+-- ---- bad pairs of three boats, and no row
 abbrev withPairs : List ℕ → Tables
 withPairs pairs = record { sizes = 1 ∷ 1 ∷ 1 ∷ []; pairs = pairs; rows = [] }
 
@@ -51,7 +51,7 @@ wayAfterWay t =
     ∷ eachWay (listed (t .pairs)) (λ k. fault 51 (2 * k + 1) (namesNoBoat (boats t) (higher (t .pairs) k)))
     ∷ eachWay (listed (t .pairs)) (λ k. fault 52 (2 * k + 1) (sameBoat (t .pairs) k))
     ∷ eachWay (listed (t .pairs)) (λ k. fault 53 (2 * k) (higherFirst (t .pairs) k))
-    ∷ eachWay (listed (t .pairs)) (λ k. fault 54 (2 * k) (notAbovePairBefore (t .pairs) k))
+    ∷ eachWay (listed (t .pairs)) (λ k. fault 54 (2 * k) (notRising (t .pairs) k))
     ∷ []
 
 pub way-after-way : (o : Told) → (let t = withPairs (1 ∷ 0 ∷ 0 ∷ 9 ∷ []) in firstOf (wayAfterWay t) o ≡ examination t) → ⊥
@@ -67,3 +67,8 @@ same-boat-before-no-boat e = eqb-false 152 151 refl (ap number e)
 pub not-rising-before-higher-first : refused 54 2 ≡ examination (withPairs (1 ∷ 2 ∷ 1 ∷ 0 ∷ [])) → ⊥
 unfolding examination firstOf lowest lowestFrom start sum wayBad
 not-rising-before-higher-first e = eqb-false 154 153 refl (ap number e)
+
+-- one that goes by the size of the numbers: 6 applies too
+pub smaller-number-first : refused 6 0 ≡ examination (withPairs (1 ∷ 0 ∷ [])) → ⊥
+unfolding examination firstOf lowest lowestFrom start sum wayBad
+smaller-number-first e = eqb-false 106 153 refl (ap number e)

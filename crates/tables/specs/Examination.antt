@@ -34,15 +34,15 @@ sameBoat pairs k = eqb (lower pairs k) (higher pairs k)
 abbrev pub higherFirst : List ℕ → ℕ → Bool
 higherFirst pairs k = ltb (higher pairs k) (lower pairs k)
 
--- 54: a pair equal to or below the one before
+-- 54: a pair equal to or below the one before, that is, not above it: by the lower boat, then by the higher
 abbrev pub isAbove : List ℕ → (k before : ℕ) → Bool
 isAbove pairs k before =
     ltb (lower pairs before) (lower pairs k)
     || (eqb (lower pairs before) (lower pairs k) && ltb (higher pairs before) (higher pairs k))
 
-abbrev pub notAbovePairBefore : List ℕ → ℕ → Bool
-notAbovePairBefore pairs zero = false
-notAbovePairBefore pairs (suc k) = not (isAbove pairs (suc k) k)
+abbrev pub notRising : List ℕ → ℕ → Bool
+notRising pairs zero = false
+notRising pairs (suc k) = not (isAbove pairs (suc k) k)
 
 -- 51 to 54: the ways in which pair k may be bad, in their order, each with the byte where the fault stands
 abbrev pub waysBad : (n : ℕ) → List ℕ → ℕ → List Fault
@@ -51,7 +51,7 @@ waysBad n pairs k =
     ∷ fault 51 (2 * k + 1) (namesNoBoat n (higher pairs k))
     ∷ fault 52 (2 * k + 1) (sameBoat pairs k)
     ∷ fault 53 (2 * k) (higherFirst pairs k)
-    ∷ fault 54 (2 * k) (notAbovePairBefore pairs k)
+    ∷ fault 54 (2 * k) (notRising pairs k)
     ∷ []
 
 -- the first of them that applies

@@ -3,4 +3,5 @@ pub mod Applies
 pub mod Examination
 pub mod Framed
 pub mod Ways
+pub mod Cases
 pub mod Replies

@@ -1,4 +1,4 @@
--- An ordered list of tests: the first that applies, at its lowest place, says the refusal.
+-- An ordered list of tests: the first that applies, where it does so first, says the refusal.
 use mathlib.Core.Bool.{Bool, true, false}
 use mathlib.Core.List.{List, [], _∷_}
 use Prim.Native.Nat.{ℕ}
@@ -23,29 +23,29 @@ abbrev pub firstFault : List Fault → Fault
 firstFault [] = fault 0 0 false
 firstFault (f ∷ fs) = elim (f .cause) [ true ↦ f | false ↦ firstFault fs ]
 
--- a test looks for its fault at the places 0, 1, .. places - 1, the lowest first
+-- a test looks for its fault at 0, 1, .. count - 1, the lowest first
 pub record Test : Type 0 where
-  pub places : ℕ
+  pub count : ℕ
   pub at : ℕ → Fault
 
--- a test of the whole input: its place is 0
+-- a test of the whole input: the refusal's place is 0
 abbrev pub once : (number : ℕ) → Bool → Test
-once number cause = record { places = 1; at = λ k. fault number 0 cause }
+once number cause = record { count = 1; at = λ k. fault number 0 cause }
 
--- a test of each of so many places, which the refusal names
-abbrev pub each : (number places : ℕ) → (ℕ → Bool) → Test
-each number places cause = record { places = places; at = λ k. fault number k (cause k) }
+-- a test of each of so many boats or words: the refusal's place is the one at fault
+abbrev pub each : (number count : ℕ) → (ℕ → Bool) → Test
+each number count cause = record { count = count; at = λ k. fault number k (cause k) }
 
--- a test of each of so many places, whose refusals have a number and a place of their own
-abbrev pub eachWay : (places : ℕ) → (ℕ → Fault) → Test
-eachWay places way = record { places = places; at = way }
+-- a test of each of so many pairs: the fault there says number and place
+abbrev pub eachWay : (count : ℕ) → (ℕ → Fault) → Test
+eachWay count way = record { count = count; at = way }
 
--- the lowest place where its cause is there; `places` where it is nowhere
+-- the lowest at which its cause is there; `count` where it is nowhere
 abbrev pub found : Test → ℕ
-found test = lowest (test .places) (λ k. test .at k .cause)
+found test = lowest (test .count) (λ k. test .at k .cause)
 
 -- what the tests say in turn; `otherwise` where none applies
 unfoldable pub firstOf : List Test → (otherwise : Told) → Told
 firstOf [] otherwise = otherwise
 firstOf (test ∷ tests) otherwise =
-    elim (ltb (found test) (test .places)) [ true ↦ says (test .at (found test)) | false ↦ firstOf tests otherwise ]
+    elim (ltb (found test) (test .count)) [ true ↦ says (test .at (found test)) | false ↦ firstOf tests otherwise ]

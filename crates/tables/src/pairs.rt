@@ -3,7 +3,7 @@ ghost use mathlib.Core.Path.{_≡_};
 ghost use Prim.Native.Nat.{_<_};
 ghost use Rattle.problem.specs.Tables.{listed};
 ghost use Rattle.tables.specs.Tests.{eachWay};
-ghost use Rattle.tables.specs.Examination.{notAbovePairBefore, wayBad, isAbove};
+ghost use Rattle.tables.specs.Examination.{notRising, wayBad, isAbove};
 ghost use Rattle.tables.specs.Ways.{IsWay, IsFirst};
 use problem::Refusal;
 
@@ -30,7 +30,7 @@ fn is_above(pairs: &[u8], pair: usize, before: usize) -> bool
 // A pair is equal to or below the one before; the first has none before it.
 fn is_not_rising(pairs: &[u8], pair: usize) -> bool
     requires { ⌜ pair < listed (now pairs) ⌝ }
-    ensures { λ r. ⌜ r ≡ notAbovePairBefore (now (pairs .entry)) pair ⌝ }
+    ensures { λ r. ⌜ r ≡ notRising (now (pairs .entry)) pair ⌝ }
 {
     if pair == 0 {
         return false;

@@ -378,12 +378,15 @@ fn named_bad_pairs_are_told_as_worked_out() {
         ("pair 0-3 of 3 boats", "t 151 1"),
         ("pair 255-255", "t 151 0"),
         ("pairs 0-1, 0-1", "t 154 2"),
+        ("pairs 0-2, 0-1", "t 154 2"),
+        ("pairs 0-1, 1-2, 0-2", "t 154 4"),
         ("pairs 0-1, 2-1, 1-0", "t 153 2"),
         ("pairs 0-1, 0-9 of 3 boats", "t 151 3"),
         ("pair 9-9 of 3 boats", "t 151 0"),
         ("pair 9-0 of 3 boats", "t 151 0"),
         ("pair 0-9 of 3 boats", "t 151 1"),
         ("pairs 1-0, 9-9 of 3 boats", "t 153 0"),
+        ("pairs 0-1, 1-1", "t 152 3"),
         ("pairs 1-2, 0-0", "t 152 3"),
         ("pairs 1-2, 1-0", "t 153 2"),
         ("pairs 1-2, 0-9 of 3 boats", "t 151 3"),
@@ -391,6 +394,8 @@ fn named_bad_pairs_are_told_as_worked_out() {
         ("2016 pairs, the last 62-64", "t 151 4031"),
         ("pair 1-0, two rows for one", "t 153 0"),
         ("pair 0-2 of 2 boats, two rows for one, high bits", "t 151 1"),
+        ("pairs 0-1 1-0, FC-CBJ", "r 153 2 0 0 - 0 0 0"),
+        ("pair 1-0 and 1 row word for 2, FC-CBJ", "r 153 0 0 0 - 0 0 0"),
     ] {
         let ending = format!(" # {name}");
         let mut lines = problems.lines().zip(replies.lines());

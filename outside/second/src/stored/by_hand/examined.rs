@@ -49,12 +49,13 @@ fn of_three_boats((name, pairs): (&str, &[u8])) -> Group {
 /// Which pair speaks, which of its faults, and which of its bytes.
 fn of_bad_pairs() -> Vec<Group> {
     let equal = [0, 1].repeat(MOST_PAIRS + 1);
-    let lists: [(&str, &[u8]); 9] = [
+    let lists: [(&str, &[u8]); 10] = [
         ("pairs 0-1, 0-9 of 3 boats", &[0, 1, 0, 9]),
         ("pair 9-9 of 3 boats", &[9, 9]),
         ("pair 9-0 of 3 boats", &[9, 0]),
         ("pair 0-9 of 3 boats", &[0, 9]),
         ("pairs 1-0, 9-9 of 3 boats", &[1, 0, 9, 9]),
+        ("pairs 0-1, 1-1", &[0, 1, 1, 1]),
         ("pairs 1-2, 0-0", &[1, 2, 0, 0]),
         ("pairs 1-2, 1-0", &[1, 2, 1, 0]),
         ("pairs 1-2, 0-9 of 3 boats", &[1, 2, 0, 9]),
