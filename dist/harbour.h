@@ -6,8 +6,8 @@
  *           lower boat, then by higher
  *   rows    for each pair, in order, one word for each slot of the lower boat: bit b is set where
  *           the higher boat may take its slot b beside it
- * Boats, slots, pairs, bytes and words, and so all places, count from 0. A pair that is not listed allows
- * everything.
+ * Boats, slots, pairs, bytes and words, and so all places, count from 0. A pair that is not listed
+ * allows everything.
  *
  * What a caller owes, in every call: each part is valid for its length (for writing too, where it
  * is not const), words are aligned as uint64_t, no part that is written overlaps another, and nobody
@@ -71,7 +71,7 @@ extern "C" {
 #define HARBOUR_BROKEN UINT64_C(1)                 /* place: the index of the lowest broken pair */
 
 /* refusals, in the order in which they are tested: 100 and the number that the papers give. 151 to 154
- * are tested in that order at each pair, the lowest pair first */
+ * are one test: at each pair in that order, the lowest pair first; place / 2 is the index of the pair */
 #define HARBOUR_REFUSED UINT64_C(100)                    /* what is added to a refusal's number */
 #define HARBOUR_REFUSED_METHOD UINT64_C(101)             /* no method has this number */
 #define HARBOUR_REFUSED_BOATS UINT64_C(102)              /* more than 64 boats */
@@ -277,10 +277,10 @@ static inline const char *harbour_cause(uint64_t answer) {
     case HARBOUR_REFUSED_BOATS: return "there are more than 64 boats";
     case HARBOUR_REFUSED_SIZE: return "it has no slot, or more than 64";
     case HARBOUR_REFUSED_PAIR_BYTES: return "the pairs have an odd number of bytes, or more than 4032";
-    case HARBOUR_REFUSED_PAIR_NO_BOAT: return "it names a boat that is not there";
-    case HARBOUR_REFUSED_PAIR_SAME_BOAT: return "it names the same boat as the byte before";
-    case HARBOUR_REFUSED_PAIR_HIGHER_FIRST: return "the pair that begins there names the higher boat first";
-    case HARBOUR_REFUSED_PAIR_NOT_RISING: return "the pair that begins there is equal to or below the pair before";
+    case HARBOUR_REFUSED_PAIR_NO_BOAT: return "the byte names a boat that is not there";
+    case HARBOUR_REFUSED_PAIR_SAME_BOAT: return "the byte names the same boat as the one before it";
+    case HARBOUR_REFUSED_PAIR_HIGHER_FIRST: return "the pair has the higher boat first";
+    case HARBOUR_REFUSED_PAIR_NOT_RISING: return "the pair is equal to or below the one before it";
     case HARBOUR_REFUSED_ROW_WORDS: return "the rows are too few or too many for the pairs";
     case HARBOUR_REFUSED_ROW_BIT: return "it allows a slot that the higher boat does not have";
     case HARBOUR_REFUSED_PLAN_MEMORY: return "the plan's memory has fewer bytes than there are boats";
@@ -291,14 +291,15 @@ static inline const char *harbour_cause(uint64_t answer) {
     }
 }
 
-/* What the place of a refusal names, or NULL where it names nothing. */
+/* Is the place of a refusal a byte of the pairs? */
+static inline int harbour_place_is_pair_byte(uint64_t answer) {
+    return answer >= HARBOUR_REFUSED_PAIR_NO_BOAT && answer <= HARBOUR_REFUSED_PAIR_NOT_RISING;
+}
+
+/* What else the place of a refusal names, or NULL where it names nothing. */
 static inline const char *harbour_place_names(uint64_t answer) {
     switch (answer) {
     case HARBOUR_REFUSED_SIZE: return "boat";
-    case HARBOUR_REFUSED_PAIR_NO_BOAT:
-    case HARBOUR_REFUSED_PAIR_SAME_BOAT:
-    case HARBOUR_REFUSED_PAIR_HIGHER_FIRST:
-    case HARBOUR_REFUSED_PAIR_NOT_RISING: return "pair byte";
     case HARBOUR_REFUSED_ROW_BIT: return "row word";
     case HARBOUR_REFUSED_GIVEN_SLOT: return "boat";
     default: return NULL;
@@ -312,6 +313,9 @@ static inline harbour_line harbour_say_refused(harbour_reply reply) {
     const uint64_t number = reply.answer - HARBOUR_REFUSED;
     if (cause == NULL) {
         snprintf(line.text, sizeof line.text, "%" PRIu64 " is no answer of this call", reply.answer);
+    } else if (harbour_place_is_pair_byte(reply.answer)) {
+        snprintf(line.text, sizeof line.text, "refused, number %" PRIu64 " at pair byte %" PRIu64 ", in pair %" PRIu64
+            ": %s", number, reply.place, reply.place / 2, cause);
     } else if (names == NULL) {
         snprintf(line.text, sizeof line.text, "refused, number %" PRIu64 ": %s", number, cause);
     } else {
