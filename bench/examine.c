@@ -1,4 +1,5 @@
-/* The examination in plain C: numbers 2, 3, 4, 51 to 54, 6 and 7. Each search gives the first place at fault, or the end. */
+/* The examination in plain C: numbers 2, 3, 4, 51 to 54, 6 and 7. Each search gives the lowest boat, pair or word
+ * at fault, or their number. */
 #include "plain.h"
 
 static size_t bad_size(const harbour_tables *t)

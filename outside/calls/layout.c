@@ -38,7 +38,7 @@ static void functions(void) {
     same("harbour_rows", "length", rows(NULL, 0, NULL, 0, NULL, 0, 0, 0).length, 0);
 }
 
-/* Each name with the number that docs/01-scope.md and the answers' list give it. */
+/* Each name with the number that the documents and the answers' list give it. */
 static void constants(void) {
     static const struct {
         const char *name;

@@ -44,7 +44,7 @@ module _ (method : ℕ) (t : Tables) (plan work : List ℕ) (checks trials : ℕ
   accepts = accepted method t plan work checks trials
 
   -- ---- DEMAND 1
-  -- the first test that applies speaks, at its lowest place; the counts are 0 and nothing lent has changed
+  -- the first test that applies speaks, where it does so first; the counts are 0 and nothing lent has changed
   pub run-refuses-first : (why : Told) → Gives all why → reply ≡ refusedResult why plan work
   unfolding refusalOfRun
   run-refuses-first why g = result-refused method t plan work checks trials (gives-first all (told 0 []) why g) (gives-refused all why g)
@@ -63,7 +63,7 @@ module _ (method : ℕ) (t : Tables) (plan work : List ℕ) (checks trials : ℕ
       (λ g. inr (subst (Gives all) (ap (λ (r : Result). r .answer) (sym (run-refuses-first (firstOf all (told 0 [])) g))) g))
       (first-gives all (told 0 []))
 
-  -- no refusal without its cause: it is what the first test that applies says at its lowest place
+  -- no refusal without its cause: it is what the first test that applies says, where it does so first
   pub run-refusal-has-cause : 100 ≤ reply .answer .number → Gives all (reply .answer)
   run-refusal-has-cause l = ⊎-elim (λ n. absurd (omega (arith, run-not-refused n))) (λ g. g) one-or-none
 

@@ -8,7 +8,7 @@ use Rattle.problem.specs.Tables.{Tables, boats, listed, start}
 use Rattle.problem.specs.Sane.{Sane}
 use Rattle.problem.specs.Replies.{told}
 use Rattle.tables.specs.Applies.{NoneApplies, none, nor}
-use Rattle.tables.specs.Examination.{tests, examination, Fine}
+use Rattle.tables.specs.Examination.{tests, fineTold, examination, Fine}
 use Rattle.tables.proofs.Bools.{passes-not}
 use Rattle.tables.proofs.Causes.{size-good, good-size, bytes-good, good-bytes}
 use Rattle.tables.proofs.Ways.{way-good, good-pair, above-rising, rising-above}
@@ -46,6 +46,6 @@ sane-fine t s =
     (nor (rows-good t (s .rowWords) (s .rowBits))
     none))))))
 
-pub fine-told : (t : Tables) → Fine t → examination t ≡ told 0 (boats t ∷ listed (t .pairs) ∷ length (t .rows) ∷ [])
+pub fine-told : (t : Tables) → Fine t → examination t ≡ fineTold t
 unfolding examination
 fine-told t f = none-fine (tests t) _ (fine-none t f)

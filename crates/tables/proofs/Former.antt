@@ -1,54 +1,60 @@
--- Number 5 of document 01, which No. 1 of document 02 splits in four: the same tables are refused, at the same pair, and every other reply is what it was.
-use mathlib.Core.Path.{_≡_, refl, sym, ap, subst, _∙_}
-use mathlib.Core.Logic.{⊎-elim}
-use mathlib.Core.Bool.{Bool, true, false, _||_}
+-- Against number 5 of document 01, which No. 1 of document 02 splits in four: the same tables are refused, at the same pair, and every other reply is what it was.
+use mathlib.Core.Path.{_≡_, refl, sym, ap, ap₂, subst, _∙_}
+use mathlib.Core.Logic.{inl, inr, ⊎-elim}
+use mathlib.Core.Bool.{Bool, true, false, not, _&&_, _||_}
 use mathlib.Core.List.{List, [], _∷_}
-use Prim.Native.Nat.{ℕ, _+_, _*_, _/_}
+use Prim.Native.Nat.{ℕ, zero, suc, _+_, _*_, _/_}
 use native.Mathlib.Omega.{arith}
-use borrow.Author.Tests.{leb-false, eqb-false, lt-leb}
-use lib.Dec.{leb, eqb}
-use lib.ListN.{length, getD}
-use Rattle.problem.specs.Tables.{Tables, boats, listed, lower, higher}
+use borrow.Author.Tests.{ltb-true, leb-false, eqb-true, eqb-false, lt-ltb, le-ltb, lt-leb, eq-eqb}
+use lib.Dec.{ltb, leb, eqb}
+use lib.ListN.{getD}
+use Rattle.problem.specs.Tables.{Tables, boats, lower, higher}
+use Rattle.problem.specs.Rising.{Precedes}
 use Rattle.problem.specs.Replies.{Told, refused}
 use Rattle.problem.proofs.Lowest.{not-both}
-use Rattle.tables.specs.Tests.{Fault, firstFault, says, Test, once, each, firstOf}
+use Rattle.problem.proofs.Places.{both-true}
+use Rattle.tables.specs.Tests.{Fault, firstFault, says}
 use Rattle.tables.specs.Applies.{NoneApplies, none, nor, Gives, here, later}
-use Rattle.tables.specs.Examination.{tooManyBoats, badSize, badPairBytes, notRising, waysBad, wayBad, badRowWords, badWord, tests, examination}
-use Rattle.tables.proofs.Bools.{or-neither, neither-or}
-use Rattle.tables.proofs.Ways.{fault-here, fault-later, way-good, good-pair}
-use Rattle.tables.proofs.Examining.{outcome}
+use Rattle.tables.specs.Examination.{equalOrBelow, notRising, waysBad, wayBad, tests, fineTold, examination}
+use Rattle.tables.specs.Former.{isAbove, notAbovePairBefore, badPair, formerTests, formerExamination, ofPairs, asFormerly}
+use Rattle.tables.proofs.Bools.{or-here, or-rest, or-neither, neither-or}
+use Rattle.tables.proofs.Ways.{fault-here, fault-later, above-precedes, precedes-above, way-good, good-pair}
 use Rattle.tables.proofs.Laws.{none-fine, gives-first, first-gives}
 
--- ---- the examination of document 01 alone. What No. 1 left as it was is shared with the examination of now
--- 5: a pair not lower-then-higher, naming no boat, or not above the pair before
-unfoldable pub badPair : (n : ℕ) → List ℕ → ℕ → Bool
-badPair n pairs k = leb (higher pairs k) (lower pairs k) || (leb n (lower pairs k) || leb n (higher pairs k)) || notRising pairs k
-
-abbrev pub formerTests : Tables → List Test
-formerTests t =
-    once 2 (tooManyBoats t)
-    ∷ each 3 (boats t) (badSize (t .sizes))
-    ∷ once 4 (badPairBytes (t .pairs))
-    ∷ each 5 (listed (t .pairs)) (badPair (boats t) (t .pairs))
-    ∷ once 6 (badRowWords t)
-    ∷ each 7 (length (t .rows)) (badWord t)
-    ∷ []
-
-pub formerExamination : Tables → Told
-formerExamination t = firstOf (formerTests t) (outcome t)
-
--- ---- a reply of now as it was told then: 51 to 54 are 5, at the pair of their byte
-abbrev pub ofPairs : ℕ → Bool
-ofPairs number = eqb number 151 || eqb number 152 || eqb number 153 || eqb number 154
-
-abbrev pub asFormerly : Told → Told
-asFormerly w = elim (ofPairs (w .number)) [ true ↦ refused 5 (getD (w .values) 0 0 / 2) | false ↦ w ]
-
+-- ---- a reply of now as it was told then
 as-5 : (w : Told) → ofPairs (w .number) ≡ true → asFormerly w ≡ refused 5 (getD (w .values) 0 0 / 2)
 as-5 w e = ap (λ (b : Bool). elim b as (λ x. Told) [ true ↦ refused 5 (getD (w .values) 0 0 / 2) | false ↦ w ]) e
 
 as-now : (w : Told) → ofPairs (w .number) ≡ false → asFormerly w ≡ w
 as-now w e = ap (λ (b : Bool). elim b as (λ x. Told) [ true ↦ refused 5 (getD (w .values) 0 0 / 2) | false ↦ w ]) e
+
+-- ---- equal to or below is not above
+module _ (pairs : List ℕ) (k before : ℕ) where
+  is-above-precedes : isAbove pairs k before ≡ true → Precedes pairs before k
+  is-above-precedes e = by (ltb (lower pairs before) (lower pairs k)) refl e
+    where
+      by : (b : Bool) → ltb (lower pairs before) (lower pairs k) ≡ b
+          → (b || (eqb (lower pairs before) (lower pairs k) && ltb (higher pairs before) (higher pairs k))) ≡ true → Precedes pairs before k
+      by true q h = inl (ltb-true _ _ q)
+      by false q h = let r = both-true _ _ h in inr (eqb-true _ _ (r .0), ltb-true _ _ (r .1))
+
+  precedes-is-above : Precedes pairs before k → isAbove pairs k before ≡ true
+  precedes-is-above (inl l) = or-here _ _ (lt-ltb _ _ l)
+  precedes-is-above (inr w) =
+      or-rest _ _ (le-ltb (lower pairs before) (lower pairs k) (omega arith))
+      ∙ ap₂ _&&_ (eq-eqb _ _ (w .0)) (lt-ltb _ _ (w .1))
+
+  below-not-above : equalOrBelow pairs k before ≡ not (isAbove pairs k before)
+  below-not-above = by (isAbove pairs k before) refl (equalOrBelow pairs k before) refl
+    where
+      by : (a : Bool) → isAbove pairs k before ≡ a → (b : Bool) → equalOrBelow pairs k before ≡ b → equalOrBelow pairs k before ≡ not (isAbove pairs k before)
+      by true p b q = precedes-above pairs k before (is-above-precedes p) ∙ sym (ap not p)
+      by false p true q = q ∙ sym (ap not p)
+      by false p false q = absurd (not-both (precedes-is-above (above-precedes pairs k before q)) p)
+
+rising-formerly : (pairs : List ℕ) (k : ℕ) → notRising pairs k ≡ notAbovePairBefore pairs k
+rising-formerly pairs zero = refl
+rising-formerly pairs (suc k) = below-not-above pairs (suc k) k
 
 -- ---- a pair is bad now where it was bad then
 module _ (n : ℕ) (pairs : List ℕ) (k : ℕ) where
@@ -58,13 +64,13 @@ module _ (n : ℕ) (pairs : List ℕ) (k : ℕ) where
       let q = or-neither _ _ e in
       let r = or-neither _ _ (q .0) in
       let s = or-neither (leb n (lower pairs k)) _ (r .1) in
-      way-good n pairs k (leb-false _ _ (r .0)) (leb-false _ _ (s .1)) (q .1)
+      way-good n pairs k (leb-false _ _ (r .0)) (leb-false _ _ (s .1)) (rising-formerly pairs k ∙ q .1)
 
   good-formerly : wayBad n pairs k .cause ≡ false → badPair n pairs k ≡ false
   unfolding badPair
   good-formerly e =
       let g = good-pair n pairs k e in
-      neither-or _ _ (neither-or _ _ (lt-leb _ _ (g .0)) (neither-or _ _ (lt-leb n (lower pairs k) (omega arith)) (lt-leb _ _ (g .1)))) (g .2)
+      neither-or _ _ (neither-or _ _ (lt-leb _ _ (g .0)) (neither-or _ _ (lt-leb n (lower pairs k) (omega arith)) (lt-leb _ _ (g .1)))) (sym (rising-formerly pairs k) ∙ g .2)
 
   pub bad-as-formerly : wayBad n pairs k .cause ≡ badPair n pairs k
   bad-as-formerly = by (badPair n pairs k) refl (wayBad n pairs k .cause) refl
@@ -124,9 +130,9 @@ module _ (t : Tables) where
   unfolding formerExamination examination
   told-as-formerly =
       ⊎-elim
-      (λ n. none-fine (formerTests t) (outcome t) (none-formerly n) ∙ ap asFormerly (sym (none-fine (tests t) (outcome t) n)))
-      (λ g. gives-first (formerTests t) (outcome t) _ (gives-formerly g))
-      (first-gives (tests t) (outcome t))
+      (λ n. none-fine (formerTests t) (fineTold t) (none-formerly n) ∙ ap asFormerly (sym (none-fine (tests t) (fineTold t) n)))
+      (λ g. gives-first (formerTests t) (fineTold t) _ (gives-formerly g))
+      (first-gives (tests t) (fineTold t))
 
   -- 5 is no longer given
   not-5 : {w : Told} → Gives (tests t) w → w .number ≡ 105 → ⊥
@@ -141,8 +147,8 @@ module _ (t : Tables) where
   pub never-5 : examination t .number ≡ 105 → ⊥
   unfolding examination
   never-5 e =
-      ⊎-elim (λ n. eqb-false 0 105 refl (sym (ap (λ w. w .number) (none-fine (tests t) (outcome t) n)) ∙ e)) (λ g. not-5 g e)
-      (first-gives (tests t) (outcome t))
+      ⊎-elim (λ n. eqb-false 0 105 refl (sym (ap (λ w. w .number) (none-fine (tests t) (fineTold t) n)) ∙ e)) (λ g. not-5 g e)
+      (first-gives (tests t) (fineTold t))
 
   -- the tables refused by 51 to 54 are exactly those that 5 refused
   pub of-pairs-were-5 : ofPairs (examination t .number) ≡ true → formerExamination t .number ≡ 105

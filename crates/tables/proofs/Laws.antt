@@ -12,8 +12,8 @@ use Rattle.problem.specs.Replies.{Told}
 use Rattle.problem.proofs.Lowest.{lowest-here, lowest-fails, lowest-passes, none-lowest}
 use Rattle.tables.specs.Tests.{says, Test, found, firstOf}
 use Rattle.tables.specs.Applies.{NoneApplies, none, nor, Gives, here, later}
-use Rattle.tables.specs.Examination.{tests, examination, Fine}
-use Rattle.tables.proofs.Examining.{applies, passes, fails-passes, outcome}
+use Rattle.tables.specs.Examination.{tests, fineTold, examination, Fine}
+use Rattle.tables.proofs.Examining.{applies, passes, fails-passes}
 
 -- ---- a list of tests
 pub none-fine : (ts : List Test) (o : Told) → NoneApplies ts → firstOf ts o ≡ o
@@ -65,8 +65,8 @@ gives-before pre post w (later {test} {tests} f g) = later f (gives-before tests
 -- ---- the examination
 pub fine-none : (t : Tables) → Fine t → NoneApplies (tests t)
 unfolding examination
-fine-none t e = small-none (tests t) (outcome t) (omega arith)
+fine-none t e = small-none (tests t) (fineTold t) (omega arith)
 
 pub none-is-fine : (t : Tables) → NoneApplies (tests t) → Fine t
 unfolding examination
-none-is-fine t n = ap (λ w. w .number) (none-fine (tests t) (outcome t) n)
+none-is-fine t n = ap (λ w. w .number) (none-fine (tests t) (fineTold t) n)

@@ -1,26 +1,25 @@
 -- The ways in which a pair is bad, from the facts that the code tests, and back.
 use mathlib.Core.Path.{_≡_, refl, sym, ap, _∙_}
 use mathlib.Core.Logic.{inl, inr, ⊎-elim}
-use mathlib.Core.Bool.{Bool, true, false, not, _&&_, _||_}
+use mathlib.Core.Bool.{Bool, true, false, _&&_}
 use mathlib.Core.List.{List, [], _∷_}
 use Prim.Native.Nat.{ℕ, zero, suc, _+_, _-_, _*_, _≤_, _<_}
 use native.Mathlib.Nat.{eq-or-lt-of-le, le-of-suc-le-suc}
 use native.Mathlib.Omega.{arith}
-use borrow.Author.Tests.{ltb-true, ltb-false, leb-false, eqb-true, eqb-false, not-false, lt-ltb, le-ltb, le-leb, lt-leb, eq-eqb, ne-eqb}
-use lib.Dec.{ltb, leb, eqb}
+use borrow.Author.Tests.{ltb-false, leb-false, eqb-false, lt-ltb, le-ltb, le-leb, lt-leb, eq-eqb, ne-eqb}
+use lib.Dec.{leb}
 use Rattle.problem.specs.Tables.{listed, lower, higher}
 use Rattle.problem.specs.Rising.{Rising, Precedes}
 use Rattle.problem.specs.Replies.{refusalTold}
 use Rattle.problem.specs.declared.Refusal.{Refusal}
 use Rattle.problem.specs.declared.Refusal.the-variants.{PairNoBoat, PairSameBoat, PairHigherFirst, PairNotRising}
 use Rattle.problem.proofs.Lowest.{not-both, lowest-here, lowest-none}
-use Rattle.problem.proofs.Places.{both-true}
 use Rattle.tables.specs.declared.pairs.Way.the-variants.{Good, Bad}
 use Rattle.tables.specs.Tests.{Fault, fault, firstFault, says, Test}
 use Rattle.tables.specs.Applies.{Fails}
-use Rattle.tables.specs.Examination.{namesNoBoat, sameBoat, higherFirst, isAbove, notRising, wayBad}
+use Rattle.tables.specs.Examination.{namesNoBoat, sameBoat, higherFirst, equalOrBelow, notRising, wayBad}
 use Rattle.tables.specs.Ways.{IsWay, IsFirst}
-use Rattle.tables.proofs.Bools.{or-here, or-rest, passes-not}
+use Rattle.tables.proofs.Bools.{or-here, or-rest, or-neither}
 
 -- ---- the first of several faults
 module _ (f : Fault) (fs : List Fault) where
@@ -48,39 +47,36 @@ module _ (test : Test) where
   pub way-nowhere : Fails test → IsFirst Good test
   way-nowhere f = omega (arith, lowest-none (test .count) (λ j. test .at j .cause) f)
 
--- ---- 54: a pair above another
+-- ---- 54: a pair equal to or below another, or above it
 module _ (pairs : List ℕ) (k before : ℕ) where
-  pub above-lower : lower pairs before < lower pairs k → isAbove pairs k before ≡ true
-  above-lower l = or-here _ _ (lt-ltb _ _ l)
+  pub below-lower : lower pairs k < lower pairs before → equalOrBelow pairs k before ≡ true
+  below-lower l = or-here _ _ (lt-ltb _ _ l)
 
-  pub above-higher : lower pairs before ≡ lower pairs k → isAbove pairs k before ≡ ltb (higher pairs before) (higher pairs k)
-  above-higher e =
-      or-rest _ _ (le-ltb (lower pairs before) (lower pairs k) (omega arith))
-      ∙ ap (λ b. b && ltb (higher pairs before) (higher pairs k)) (eq-eqb _ _ e)
+  pub below-higher : lower pairs k ≡ lower pairs before → equalOrBelow pairs k before ≡ leb (higher pairs k) (higher pairs before)
+  below-higher e =
+      or-rest _ _ (le-ltb (lower pairs k) (lower pairs before) (omega arith))
+      ∙ ap (λ b. b && leb (higher pairs k) (higher pairs before)) (eq-eqb _ _ e)
 
-  pub above-neither : lower pairs k ≤ lower pairs before → (lower pairs before ≡ lower pairs k → ⊥) → isAbove pairs k before ≡ false
-  above-neither l n = or-rest _ _ (le-ltb _ _ l) ∙ ap (λ b. b && ltb (higher pairs before) (higher pairs k)) (ne-eqb _ _ n)
+  pub below-neither : lower pairs before ≤ lower pairs k → (lower pairs k ≡ lower pairs before → ⊥) → equalOrBelow pairs k before ≡ false
+  below-neither l n = or-rest _ _ (le-ltb _ _ l) ∙ ap (λ b. b && leb (higher pairs k) (higher pairs before)) (ne-eqb _ _ n)
 
-  pub above-precedes : isAbove pairs k before ≡ true → Precedes pairs before k
-  above-precedes e = by (ltb (lower pairs before) (lower pairs k)) refl e
-    where
-      by : (b : Bool) → ltb (lower pairs before) (lower pairs k) ≡ b
-          → (b || (eqb (lower pairs before) (lower pairs k) && ltb (higher pairs before) (higher pairs k))) ≡ true → Precedes pairs before k
-      by true q h = inl (ltb-true _ _ q)
-      by false q h = let r = both-true _ _ h in inr (eqb-true _ _ (r .0), ltb-true _ _ (r .1))
+  pub above-precedes : equalOrBelow pairs k before ≡ false → Precedes pairs before k
+  above-precedes e =
+      ⊎-elim (λ q. inr (q, leb-false _ _ (sym (below-higher (sym q)) ∙ e))) inl
+      (eq-or-lt-of-le (ltb-false (lower pairs k) (lower pairs before) (or-neither _ _ e .0)))
 
-  pub precedes-above : Precedes pairs before k → isAbove pairs k before ≡ true
-  precedes-above (inl l) = above-lower l
-  precedes-above (inr w) = above-higher (w .0) ∙ lt-ltb _ _ (w .1)
+  pub precedes-above : Precedes pairs before k → equalOrBelow pairs k before ≡ false
+  precedes-above (inl l) = below-neither (omega arith) (λ e. omega arith)
+  precedes-above (inr w) = below-higher (sym (w .0)) ∙ lt-leb _ _ (w .1)
 
 -- ---- 54: the pair before
 module _ (pairs : List ℕ) where
   pub none-before : (k : ℕ) → k ≡ 0 → notRising pairs k ≡ false
   none-before k e = ap (notRising pairs) e
 
-  pub one-before : (k : ℕ) → (k ≡ 0 → ⊥) → notRising pairs k ≡ not (isAbove pairs k (k - 1))
+  pub one-before : (k : ℕ) → (k ≡ 0 → ⊥) → notRising pairs k ≡ equalOrBelow pairs k (k - 1)
   one-before zero n = absurd (n refl)
-  one-before (suc k) n = let e : k ≡ suc k - 1 = omega arith in ap (λ j. not (isAbove pairs (suc k) j)) e
+  one-before (suc k) n = let e : k ≡ suc k - 1 = omega arith in ap (equalOrBelow pairs (suc k)) e
 
   precedes-trans : (i j k : ℕ) → Precedes pairs i j → Precedes pairs j k → Precedes pairs i k
   precedes-trans i j k (inl p) (inl q) = inl (omega arith)
@@ -91,12 +87,12 @@ module _ (pairs : List ℕ) where
   pub above-rising : ((k : ℕ) → k < listed pairs → notRising pairs k ≡ false) → Rising pairs
   above-rising above j zero h l = absurd (omega arith)
   above-rising above j (suc k) h l =
-      let step = above-precedes pairs (suc k) k (not-false _ (above (suc k) l)) in
+      let step = above-precedes pairs (suc k) k (above (suc k) l) in
       ⊎-elim (λ e. rw e step) (λ i. precedes-trans j k (suc k) (above-rising above j k i (omega arith)) step) (eq-or-lt-of-le (le-of-suc-le-suc h))
 
   pub rising-above : Rising pairs → (k : ℕ) → k < listed pairs → notRising pairs k ≡ false
   rising-above rising zero l = refl
-  rising-above rising (suc k) l = passes-not _ (precedes-above pairs (suc k) k (rising k (suc k) (omega arith) l))
+  rising-above rising (suc k) l = precedes-above pairs (suc k) k (rising k (suc k) (omega arith) l)
 
 -- ---- 51 to 54: a pair
 is-bad : (why : Refusal) {f g : Fault} → g ≡ f → f .cause ≡ true → refusalTold why ≡ says f → IsWay (Bad why) g

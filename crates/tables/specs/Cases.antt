@@ -1,5 +1,5 @@
 -- Bad pairs of three boats with one slot each, and what No. 1 of document 02 says of them; computed from the definitions.
--- No row is there, so that number 6 applies to all of them too.
+-- No row is there, so that number 6 applies too, but where the first boat of the only pair does not exist.
 use mathlib.Core.Path.{_≡_, refl}
 use mathlib.Core.List.{List, [], _∷_, map}
 use Prim.Native.Nat.{ℕ}

@@ -34,15 +34,15 @@ sameBoat pairs k = eqb (lower pairs k) (higher pairs k)
 abbrev pub higherFirst : List ℕ → ℕ → Bool
 higherFirst pairs k = ltb (higher pairs k) (lower pairs k)
 
--- 54: a pair equal to or below the one before, that is, not above it: by the lower boat, then by the higher
-abbrev pub isAbove : List ℕ → (k before : ℕ) → Bool
-isAbove pairs k before =
-    ltb (lower pairs before) (lower pairs k)
-    || (eqb (lower pairs before) (lower pairs k) && ltb (higher pairs before) (higher pairs k))
+-- 54: a pair equal to or below the one before: by the lower boat, then by the higher
+abbrev pub equalOrBelow : List ℕ → (k before : ℕ) → Bool
+equalOrBelow pairs k before =
+    ltb (lower pairs k) (lower pairs before)
+    || (eqb (lower pairs k) (lower pairs before) && leb (higher pairs k) (higher pairs before))
 
 abbrev pub notRising : List ℕ → ℕ → Bool
 notRising pairs zero = false
-notRising pairs (suc k) = not (isAbove pairs (suc k) k)
+notRising pairs (suc k) = equalOrBelow pairs (suc k) k
 
 -- 51 to 54: the ways in which pair k may be bad, in their order, each with the byte where the fault stands
 abbrev pub waysBad : (n : ℕ) → List ℕ → ℕ → List Fault
@@ -80,9 +80,13 @@ tests t =
     ∷ each 7 (length (t .rows)) (badWord t)
     ∷ []
 
--- what the examination says: a refusal, or number 0 with the numbers of boats, of listed pairs and of row words
+-- where none applies: number 0, with the numbers of boats, of listed pairs and of row words
+abbrev pub fineTold : Tables → Told
+fineTold t = told 0 (boats t ∷ listed (t .pairs) ∷ length (t .rows) ∷ [])
+
+-- what the examination says
 unfoldable pub examination : Tables → Told
-examination t = firstOf (tests t) (told 0 (boats t ∷ listed (t .pairs) ∷ length (t .rows) ∷ []))
+examination t = firstOf (tests t) (fineTold t)
 
 -- it says fine
 abbrev pub Fine : Tables → Type 0

@@ -3,7 +3,7 @@ ghost use mathlib.Core.Path.{_≡_};
 ghost use Prim.Native.Nat.{_<_};
 ghost use Rattle.problem.specs.Tables.{listed};
 ghost use Rattle.tables.specs.Tests.{eachWay};
-ghost use Rattle.tables.specs.Examination.{notRising, wayBad, isAbove};
+ghost use Rattle.tables.specs.Examination.{equalOrBelow, notRising, wayBad};
 ghost use Rattle.tables.specs.Ways.{IsWay, IsFirst};
 use problem::Refusal;
 
@@ -13,18 +13,18 @@ pub enum Way {
     Bad(Refusal),
 }
 
-// A pair is above an earlier one: by its lower boat, then by its higher.
-fn is_above(pairs: &[u8], pair: usize, before: usize) -> bool
+// A pair is equal to or below an earlier one: by its lower boat, then by its higher.
+fn is_equal_or_below(pairs: &[u8], pair: usize, before: usize) -> bool
     requires { ⌜ pair < listed (now pairs) ⌝ }
     requires { ⌜ before < listed (now pairs) ⌝ }
-    ensures { λ r. ⌜ r ≡ isAbove (now (pairs .entry)) pair before ⌝ }
+    ensures { λ r. ⌜ r ≡ equalOrBelow (now (pairs .entry)) pair before ⌝ }
 {
     let low = looks::lower_of(pairs, pair);
     let low_before = looks::lower_of(pairs, before);
-    if low_before < low {
+    if low < low_before {
         return true;
     }
-    low_before == low && looks::higher_of(pairs, before) < looks::higher_of(pairs, pair)
+    low == low_before && looks::higher_of(pairs, pair) <= looks::higher_of(pairs, before)
 }
 
 // A pair is equal to or below the one before; the first has none before it.
@@ -35,7 +35,7 @@ fn is_not_rising(pairs: &[u8], pair: usize) -> bool
     if pair == 0 {
         return false;
     }
-    !is_above(pairs, pair, pair - 1)
+    is_equal_or_below(pairs, pair, pair - 1)
 }
 
 // The first of the four ways in which a pair is bad, if it is.

@@ -390,6 +390,7 @@ fn named_bad_pairs_are_told_as_worked_out() {
         ("pairs 1-2, 0-0", "t 152 3"),
         ("pairs 1-2, 1-0", "t 153 2"),
         ("pairs 1-2, 0-9 of 3 boats", "t 151 3"),
+        ("pairs 1-2, 0-3 of 4 boats", "t 154 2"),
         ("2017 equal pairs", "t 104 0"),
         ("2016 pairs, the last 62-64", "t 151 4031"),
         ("pair 1-0, two rows for one", "t 153 0"),

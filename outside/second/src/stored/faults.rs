@@ -1,5 +1,5 @@
-//! Tables with chosen faults: every set of the examination's numbers at once, and each kind of fault
-//! alone. Which way a pair can be bad is told in bad_pairs.rs.
+//! Tables with chosen faults: every set of the examination's tests at once, and each kind of fault alone.
+//! Which way a pair can be bad is told in bad_pairs.rs.
 
 use super::by_hand::all_pairs;
 use crate::tables::Tables;

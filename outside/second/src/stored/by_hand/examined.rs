@@ -61,7 +61,10 @@ fn of_bad_pairs() -> Vec<Group> {
         ("pairs 1-2, 0-9 of 3 boats", &[1, 2, 0, 9]),
         ("2017 equal pairs", &equal),
     ];
-    lists.into_iter().map(of_three_boats).collect()
+    let mut groups: Vec<Group> = lists.into_iter().map(of_three_boats).collect();
+    // Below by the lower boat alone.
+    groups.push(group("pairs 1-2, 0-3 of 4 boats", &[1; 4], &[1, 2, 0, 3], &[], vec![]));
+    groups
 }
 
 fn of_rows() -> Vec<Group> {
