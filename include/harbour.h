@@ -38,8 +38,8 @@ extern "C" {
 
 /* The version of this header, and of the library that it belongs to: a program is to be built anew
  * where the first number has changed. */
-#define HARBOUR_VERSION "2.0.0"
-#define HARBOUR_VERSION_NUMBER 20000    /* 10,000 times the first, 100 times the second, the third */
+#define HARBOUR_VERSION "2.0.1"
+#define HARBOUR_VERSION_NUMBER 20001    /* 10,000 times the first, 100 times the second, the third */
 
 /* limits */
 #define HARBOUR_BOATS 64      /* boats of a harbour */

@@ -15,7 +15,7 @@ import os
 from itertools import chain
 from typing import Any, Iterable, NamedTuple, Optional, Sequence, SupportsIndex, Tuple
 
-__version__ = "2.0.0"  # that of the library; only another first number means another library
+__version__ = "2.0.1"  # that of the library; only another first number means another library
 
 __all__ = ["BT", "CBJ", "BM", "FC", "FC_CBJ", "AMPLE", "Tables", "Decided", "Refused", "Undecided"]
 

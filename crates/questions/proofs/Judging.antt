@@ -13,9 +13,9 @@ use Rattle.problem.specs.Plans.{Plan}
 use Rattle.problem.specs.Replies.{Told, told, refused}
 use Rattle.problem.proofs.Lowest.{none-lowest}
 use Rattle.tables.specs.Tests.{Test, each, firstOf}
-use Rattle.tables.specs.Examination.{tests, examination}
+use Rattle.tables.specs.Examination.{tests, fineTold, examination}
 use Rattle.tables.proofs.Bools.{fails-not, passes-not}
-use Rattle.tables.proofs.Examining.{applies, passes, once-applies, once-passes, outcome}
+use Rattle.tables.proofs.Examining.{applies, passes, once-applies, once-passes}
 use Rattle.tables.proofs.Laws.{none-fine, gives-first, small-none, large-gives, after-none, gives-before, fine-none}
 use Rattle.tables.proofs.Fine.{sane-fine}
 use Rattle.questions.specs.Questions.{badSlot, givenTests, broken, someBroken, yesOrNo, lawfulQuestion, pairOrNone, brokenQuestion}
@@ -70,7 +70,7 @@ refused-first t given {v} {w} is says l =
     e
     ∙ sym
     (gives-first (givenTests t given) _ (examination t)
-    (gives-before (tests t) _ (examination t) (large-gives (tests t) (outcome t) (omega arith) (omega (arith, ap (λ x. x .number) e)))))
+    (gives-before (tests t) _ (examination t) (large-gives (tests t) (fineTold t) (omega arith) (omega (arith, ap (λ x. x .number) e)))))
 
 -- ---- whether the plan is lawful is read off its broken pair
 small : (b : Bool) (k : ℕ) → pairOrNone b k .number < 100

@@ -1,12 +1,10 @@
 -- The examination says fine of exactly the tables that keep every rule.
 use mathlib.Core.Path.{_≡_}
-use mathlib.Core.List.{[], _∷_}
 use native.Mathlib.Omega.{arith}
 use borrow.Author.Tests.{ltb-false, eqb-true, not-false, le-ltb, eq-eqb}
 use lib.ListN.{length}
 use Rattle.problem.specs.Tables.{Tables, boats, listed, start}
 use Rattle.problem.specs.Sane.{Sane}
-use Rattle.problem.specs.Replies.{told}
 use Rattle.tables.specs.Applies.{NoneApplies, none, nor}
 use Rattle.tables.specs.Examination.{tests, fineTold, examination, Fine}
 use Rattle.tables.proofs.Bools.{passes-not}
