@@ -38,8 +38,8 @@ extern "C" {
 
 /* The version of this header, and of the library that it belongs to: a program is to be built anew
  * where the first number has changed. */
-#define HARBOUR_VERSION "2.0.0"
-#define HARBOUR_VERSION_NUMBER 20000    /* 10,000 times the first, 100 times the second, the third */
+#define HARBOUR_VERSION "2.0.1"
+#define HARBOUR_VERSION_NUMBER 20001    /* 10,000 times the first, 100 times the second, the third */
 
 /* limits */
 #define HARBOUR_BOATS 64      /* boats of a harbour */
@@ -77,7 +77,7 @@ extern "C" {
 #define HARBOUR_REFUSED_BOATS UINT64_C(102)              /* more than 64 boats */
 #define HARBOUR_REFUSED_SIZE UINT64_C(103)               /* a size is 0 or above 64; place: the boat */
 #define HARBOUR_REFUSED_PAIR_BYTES UINT64_C(104)         /* the pairs' bytes are odd in number or above 4,032 */
-#define HARBOUR_REFUSED_PAIR_NO_BOAT UINT64_C(151)       /* a pair byte names no boat; place: that byte */
+#define HARBOUR_REFUSED_PAIR_NO_BOAT UINT64_C(151)       /* a pair names no boat; place: its first byte that does */
 #define HARBOUR_REFUSED_PAIR_SAME_BOAT UINT64_C(152)     /* a pair names one boat twice; place: its second byte */
 #define HARBOUR_REFUSED_PAIR_HIGHER_FIRST UINT64_C(153)  /* a pair has the higher boat first; place: its first byte */
 #define HARBOUR_REFUSED_PAIR_NOT_RISING UINT64_C(154)    /* a pair is not above the one before; place: its first byte */
