@@ -1,4 +1,4 @@
--- Bad pairs of three boats with one slot each, and what No. 1 of document 02 says of them; computed from the definitions.
+-- Bad pairs of four boats with one slot each, and what No. 1 of document 02 says of them; computed from the definitions.
 -- No row is there, so that number 6 applies too, but where the first boat of the only pair does not exist.
 use mathlib.Core.Path.{_≡_, refl}
 use mathlib.Core.List.{List, [], _∷_, map}
@@ -21,7 +21,7 @@ case number byte pairs = record { pairs = pairs; number = number; byte = byte }
 -- what the definitions say
 unfoldable pub saidOf : Case → Told
 unfolding examination wayBad firstOf lowestFrom lowest sum start
-saidOf c = examination (tables (1 ∷ 1 ∷ 1 ∷ []) (c .pairs) [])
+saidOf c = examination (tables (1 ∷ 1 ∷ 1 ∷ 1 ∷ []) (c .pairs) [])
 
 unfoldable pub badPairs : List Case
 badPairs =
@@ -29,7 +29,8 @@ badPairs =
     case 51 0 (9 ∷ 0 ∷ [])
     ∷ case 51 1 (0 ∷ 9 ∷ [])
     ∷ case 51 0 (9 ∷ 9 ∷ [])
-    ∷ case 51 1 (0 ∷ 3 ∷ [])
+    ∷ case 51 0 (4 ∷ 0 ∷ [])
+    ∷ case 51 1 (0 ∷ 4 ∷ [])
     ∷ case 51 2 (0 ∷ 1 ∷ 9 ∷ 9 ∷ [])
     ∷ case 51 3 (0 ∷ 1 ∷ 0 ∷ 9 ∷ [])
     ∷ case 51 3 (1 ∷ 2 ∷ 0 ∷ 9 ∷ [])
@@ -44,6 +45,8 @@ badPairs =
     ∷ case 54 2 (0 ∷ 1 ∷ 0 ∷ 1 ∷ [])
     ∷ case 54 2 (0 ∷ 2 ∷ 0 ∷ 1 ∷ [])
     ∷ case 54 2 (1 ∷ 2 ∷ 0 ∷ 2 ∷ [])
+    ∷ case 54 2 (1 ∷ 2 ∷ 0 ∷ 3 ∷ [])
+    ∷ case 54 6 (0 ∷ 1 ∷ 0 ∷ 2 ∷ 1 ∷ 2 ∷ 1 ∷ 2 ∷ [])
     -- the lowest pair, whatever is wrong with a later one
     ∷ case 53 0 (1 ∷ 0 ∷ 9 ∷ 9 ∷ [])
     ∷ case 54 4 (0 ∷ 1 ∷ 1 ∷ 2 ∷ 0 ∷ 2 ∷ 9 ∷ 9 ∷ [])
