@@ -1,11 +1,13 @@
-# make run       builds the library, proved, and an example; plans a harbour with it
+# make run       builds the library, proved, and an example; plans a harbour with it, and keeps its file of
+#                tables as target/example/tonight.tables
+# make records   builds target/tools/records, which prints any file of tables in words; it needs no library
 # make install   puts the header, both libraries and a pkg-config file under PREFIX (/usr/local), or
 #                stages them under DESTDIR; make uninstall removes them
 # make outside   holds the library, through its C header, to the second program and to lists of due
 #                answers: SECONDS=n says how long fresh seeds are drawn, SEED=n repeats a run
 # make bench     times the library beside a plain C search that gcc and, where there is one, clang
 #                build (GCC=.. and CLANG=.. name others); `target/bench/bench each` then gives a line
-#                for each file too
+#                for each problem too, `target/bench/bench files` the reading and writing of tables alone
 # make dist      builds dist/ anew from proofs: what is used where there is no prover
 # make vectors   writes the stored problems and replies of crates/vectors anew
 # make gate      proves every crate from nothing, tries the must-fail edits, runs the programs
@@ -27,6 +29,7 @@ ORIGIN = $(if $(RT),proofs,dist)
 SHARED = target/shared/$(ORIGIN)/libharbour.so.$(VERSION)
 SECOND = target/second/release/second
 EXAMPLE = target/example/$(ORIGIN)/harbour
+RECORDS = target/tools/records
 BENCHED = target/bench
 BENCH = $(BENCHED)/bench
 OUTSIDE = target/outside
@@ -34,10 +37,12 @@ OUTSIDE = target/outside
 SECONDS = 60
 SEED := $(shell date +%s)
 
-.PHONY: run install uninstall outside bench dist vectors gate clean distclean given fit needs_rt always
+.PHONY: run records install uninstall outside bench dist vectors gate clean distclean given fit needs_rt always
 
 run: $(EXAMPLE)
-	@$(EXAMPLE)
+	@$(EXAMPLE) target/example/tonight.tables
+
+records: $(RECORDS)
 
 # Every crate that is no program; rt goes through them all and proves only what has changed.
 PROGRAMS := $(patsubst %/src/main.rt,%,$(wildcard crates/*/src/main.rt))
@@ -106,12 +111,15 @@ HEADERS := include/harbour.h $(wildcard c/*.h)
 $(EXAMPLE): $(wildcard example/*.[ch] c/*.c) $(HEADERS) $(LIBRARY) | fit
 	$(compiled)
 
+$(RECORDS): tools/records.c
+	$(compiled)
+
 # The plain C is built by both compilers for one machine; each build ends its names in its compiler's.
 GCC = $(if $(findstring gcc,$(CC)),$(CC),gcc)
 CLANG = clang --target=$(shell $(GCC) -dumpmachine)
 COMPILERS := gcc $(if $(shell command -v $(firstword $(CLANG))),clang)
-PLAIN = plain examine call whole
-PLAIN_NAMES = plain_run plain_examine plain_call plain_version whole_run
+PLAIN = plain examine call whole file
+PLAIN_NAMES = plain_run plain_examine plain_call plain_version plain_read plain_write whole_run
 
 # What is built by other compilers than are named now is built again.
 BUILT_BY = $(GCC), $(CLANG), $(COMPILERS)
@@ -181,7 +189,7 @@ gate: needs_rt
 	@bash .ci/run
 
 clean:
-	rm -rf target/example target/shared $(BENCHED) $(OUTSIDE) target/second target/second.log
+	rm -rf target/example target/tools target/shared $(BENCHED) $(OUTSIDE) target/second target/second.log
 
 distclean:
 	rm -rf target

@@ -1,5 +1,7 @@
-/* The proved library beside plain C, on the same problems in one run; with the word "each", a line a file too. */
+/* The proved library beside plain C, on the same problems in one run, and on the same files of tables. With the word
+   "each", a line a problem too; with the word "files", the files alone. */
 #include "families.h"
+#include "files.h"
 #include "form.h"
 #include "lines.h"
 
@@ -64,12 +66,10 @@ static sums measure_tiny(int each)
     return tiny;
 }
 
-int main(int count, char **word)
+static void measure_searches(int each)
 {
-    const int each = count > 1 && strcmp(word[1], "each") == 0;
     sums part[FAMILIES][METHODS] = { 0 }, all[METHODS] = { 0 };
     double largest[METHODS] = { 0 };
-    print_compilers();
     try_zebra();
     print_head();
     measure_families(each, part, all, largest);
@@ -82,5 +82,15 @@ int main(int count, char **word)
     printf("\nAnswers, counts and plans agree in all %u files and %u tiny ones.\n", file_count(), tiny_tables.files);
     print_larger(all, largest, &tiny);
     print_form(part, all);
+    printf("\n");
+}
+
+int main(int count, char **word)
+{
+    const char *const said = count > 1 ? word[1] : "";
+    print_compilers();
+    if (strcmp(said, "files") != 0)
+        measure_searches(strcmp(said, "each") == 0);
+    measure_files();
     return 0;
 }

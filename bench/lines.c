@@ -39,6 +39,24 @@ void print_calls(const char *name, const char *method, const sums *s)
     print_ratios(s);
 }
 
+void print_bytes_head(void)
+{
+    printf("%-35s %*s  library over\n%-16s %-6s %11s", "", 9 * SIDES, "MB a second", "file", "way", "bytes");
+    for (int side = LIBRARY; side < SIDES; side++)
+        printf(" %8s", side_name[side]);
+    for (int side = GCC; side < SIDES; side++)
+        printf(" %6s", side_name[side]);
+    printf(" %6s\n", "larger");
+}
+
+void print_bytes(const char *name, const char *way, size_t bytes, const sums *s)
+{
+    printf("%-16s %-6s %11zu", name, way, bytes);
+    for (int side = LIBRARY; side < SIDES; side++)
+        printf(" %8.1f", 1e-6 * (double)bytes / s->seconds[side]);
+    print_ratios(s);
+}
+
 void print_larger(const sums *all, const double *largest, const sums *tiny)
 {
     printf("Larger ratio, all files together / largest on a family:");

@@ -14,6 +14,11 @@ line print_searches;
 /* By the call. */
 line print_calls;
 
+void print_bytes_head(void);
+
+/* Of so many bytes, a second. */
+void print_bytes(const char *name, const char *way, size_t bytes, const sums *s);
+
 /* All that a limit is set on: for each method the larger ratio over all files, and the largest on a family. */
 void print_larger(const sums *all, const double *largest, const sums *tiny);
 

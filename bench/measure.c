@@ -1,24 +1,14 @@
 #include "measure.h"
 
+#include "timing.h"
+
 #include <stdio.h>
 #include <stdlib.h>
 #include <string.h>
-#include <time.h>
-
-enum { ROUNDS = 4 };
-
-static const double STRETCH = 0.02;
 
 const char *const method_name[METHODS] = {
     [HARBOUR_BT] = "BT", [HARBOUR_CBJ] = "CBJ", [HARBOUR_BM] = "BM", [HARBOUR_FC] = "FC", [HARBOUR_FC_CBJ] = "FC-CBJ",
 };
-
-static double now(void)
-{
-    struct timespec t;
-    clock_gettime(CLOCK_PROCESS_CPUTIME_ID, &t);
-    return (double)t.tv_sec + 1e-9 * (double)t.tv_nsec;
-}
 
 /* Those that take part: the last ones, by whole words, where there are such. */
 static int sides_of(const job *j)
@@ -31,13 +21,9 @@ static outcome run_once(const job *j, int side)
     return j->by[side](j->of, j->method, j->allowance, j->allowance);
 }
 
-/* Seconds a run, over so many runs. */
-static double stretch(const job *j, int side, unsigned runs)
+static void run_for_time(const void *j, int side)
 {
-    double from = now();
-    for (unsigned k = 0; k < runs; k++)
-        run_once(j, side);
-    return (now() - from) / runs;
+    run_once(j, side);
 }
 
 static void differ(const job *j, const outcome *o)
@@ -65,14 +51,7 @@ sums measured(const job *j)
 {
     outcome o = agreed(j);
     sums s = { 1, o.reply.checks, o.reply.trials, { 0 } };
-    double once = stretch(j, GCC, 1);
-    unsigned runs = once < STRETCH ? (unsigned)(STRETCH / (once + 1e-9)) + 1 : 1;
-    for (int round = 0; round < ROUNDS; round++)
-        for (int side = LIBRARY; side < sides_of(j); side++) {
-            double took = stretch(j, side, runs);
-            if (round == 0 || took < s.seconds[side])
-                s.seconds[side] = took;
-        }
+    time_sides(run_for_time, j, sides_of(j), s.seconds);
     return s;
 }
 

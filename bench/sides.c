@@ -4,6 +4,8 @@
 
 /* plain.h's names, as the two builds have them. */
 runner plain_run_gcc, plain_call_gcc, whole_run_gcc, plain_run_clang, plain_call_clang, whole_run_clang;
+reader plain_read_gcc, plain_read_clang;
+writer plain_write_gcc, plain_write_clang;
 extern const char plain_version_gcc[], plain_version_clang[];
 
 #ifdef WITH_CLANG
@@ -14,6 +16,8 @@ extern const char plain_version_gcc[], plain_version_clang[];
 
 runner *const searches[ALL_SIDES] = EACH(run, plain_run_gcc, plain_run_clang, whole_run_gcc, whole_run_clang);
 runner *const calls[ALL_SIDES] = EACH(run, plain_call_gcc, plain_call_clang, NULL, NULL);
+reader *const readers[ALL_SIDES] = EACH(harbour_read_t, plain_read_gcc, plain_read_clang, NULL, NULL);
+writer *const writers[ALL_SIDES] = EACH(harbour_write_t, plain_write_gcc, plain_write_clang, NULL, NULL);
 const char *const side_name[ALL_SIDES] = EACH("library", "gcc", "clang", "gcc by words", "clang by words");
 
 void print_compilers(void)

@@ -17,6 +17,13 @@ typedef outcome runner(const draft *of, uint64_t method, uint64_t checks, uint64
    there are searches alone, of BT and CBJ. */
 extern runner *const searches[ALL_SIDES], *const calls[ALL_SIDES];
 
+typedef harbour_read_reply reader(const uint8_t *file, size_t bytes, harbour_rooms in);
+typedef harbour_written writer(harbour_tables t, uint8_t *file, size_t room);
+
+/* Of the file there is nothing by whole words. */
+extern reader *const readers[ALL_SIDES];
+extern writer *const writers[ALL_SIDES];
+
 extern const char *const side_name[ALL_SIDES];
 
 /* Which compilers, in a line. */

@@ -19,6 +19,10 @@ void add_pair(draft *in, size_t lower, size_t higher, const uint64_t *rows) {
     in->made.row_words += words;
 }
 
+harbour_rooms rooms_of(draft *in) {
+    return (harbour_rooms){in->sizes, sizeof in->sizes, in->pairs, sizeof in->pairs, in->rows, HARBOUR_ROWS};
+}
+
 outcome run(const draft *of, uint64_t method, uint64_t checks, uint64_t trials) {
     static uint64_t work[HARBOUR_WORK];
     outcome got = {0};

@@ -8,7 +8,7 @@
 typedef struct {
     harbour_tables made;
     uint8_t sizes[HARBOUR_BOATS], pairs[2 * HARBOUR_PAIRS];
-    uint64_t rows[HARBOUR_PAIRS * HARBOUR_SLOTS];
+    uint64_t rows[HARBOUR_ROWS];
 } draft;
 
 /* No boats, and no pairs. */
@@ -19,6 +19,9 @@ void add_boats(draft *in, size_t boats, size_t size);
 
 /* The next pair in rising order, with a row for each slot of the lower boat. */
 void add_pair(draft *in, size_t lower, size_t higher, const uint64_t *rows);
+
+/* All of that room, for the tables of a file. */
+harbour_rooms rooms_of(draft *in);
 
 /* What a run comes to; the plan is all 0 unless solved. */
 typedef struct {

@@ -34,7 +34,7 @@ void draw_port(const problem *of) {
         of->draft.made.pair_bytes / 2);
 }
 
-static const char *boat_at(const problem *of, const uint8_t *plan, int hour, int quay) {
+const char *boat_at(const problem *of, const uint8_t *plan, int hour, int quay) {
     for (size_t boat = 0; boat < of->port->n; boat++) {
         berth at = of->slots[boat][plan[boat]];
         if (at.hour == hour && at.quay == quay) return of->port->boats[boat].name;

@@ -1,8 +1,10 @@
-/* Tonight's harbour planned under every method, then the three answers that are no plan: a refusal in four ways. */
+/* Tonight's harbour planned under every method, then the three answers that are no plan: a refusal in four ways; and
+ * tonight's tables as a file, kept where the program's word says, and handed to the desk. */
 #include <inttypes.h>
 #include <stdio.h>
 
 #include "chart.h"
+#include "desk.h"
 #include "savings.h"
 #include "say.h"
 
@@ -59,10 +61,23 @@ static int four_slips_of_the_pen(void) {
     return as_promised;
 }
 
-int main(void) {
+static int a_file_for_the_desk(const char *path) {
+    static file kept;
+    make_problem(&made, &tonight);
+    const outcome planned = run(&made.draft, HARBOUR_FC_CBJ, HARBOUR_AMPLE, HARBOUR_AMPLE);
+    puts("\nTONIGHT'S TABLES AS A FILE");
+    int as_promised = show_file(&made, path, &kept);
+    puts("\nTHE DESK, handed the file and a plan, and told one number");
+    as_promised &= show_plans(&made, &kept, planned.plan);
+    as_promised &= show_bad_files(&made, &kept, planned.plan);
+    return as_promised;
+}
+
+int main(int count, char **word) {
     int as_promised = plan_tonight();
     as_promised &= run_out_of_checks();
     as_promised &= too_many_boats();
     as_promised &= four_slips_of_the_pen();
+    as_promised &= a_file_for_the_desk(count > 1 ? word[1] : NULL);
     return as_promised ? 0 : 1;
 }

@@ -15,13 +15,24 @@ said=$built/said
 comparisons=0
 differed=0
 
-# Two files line by line; a line that only one of them has differs too.
+# Two files line by line; a line that only one of them has differs too. Lines may be millions of letters
+# long: what is told of one begins a little before the first letter that differs.
 lines() {
     awk '
+        function column(one, other, at) {
+            for (at = 1; at <= length(one) && substr(one, at, 1) == substr(other, at, 1);) at++
+            return at
+        }
+        function told(number, got, due, from) {
+            from = column(got, due) - 60
+            if (from < 1) from = 1
+            printf "DIFFERS line %d, from letter %d: %s in place of %s\n", number, from, substr(got, from, 100),
+                substr(due, from, 100)
+        }
         FILENAME == ARGV[1] { due[FNR] = $0; lines = FNR; next }
         { got = FNR }
         FNR > lines || $0 != due[FNR] {
-            if (++differed <= 3) printf "DIFFERS line %d: %s in place of %s\n", FNR, $0, due[FNR]
+            if (++differed <= 3) told(FNR, $0, due[FNR])
         }
         END {
             if (got < lines) differed += lines - got
@@ -74,8 +85,14 @@ replies() {
     shift 2
     "$@" < "$problems" > $built/replies
     local status=$?
-    lines "$due" $built/replies
-    return $status
+    lines "$due" $built/replies && return $status
+}
+
+# Every fault of small files, against the library under a command.
+small_files() {
+    $second files problems > $built/problems &&
+        $second files replies > $built/due &&
+        replies $built/problems $built/due "$@"
 }
 
 # How many tables of a kind one round takes, so that no kind takes much of its time.
@@ -130,6 +147,8 @@ step "the second program, the document's cases" $second cases
 step "the stored vectors, made again" stored_made_again
 step "the library on the stored vectors" replies crates/vectors/stdin crates/vectors/stdout $built/library
 step "  under the sanitizers" replies crates/vectors/stdin crates/vectors/stdout $built/sanitized/library --exact
+step "the library on every fault of small files" small_files $built/library
+step "  under the sanitizers" small_files $built/sanitized/library --exact
 for language in c cpp; do
     step "the header's guards and lines, from $language" $built/guards_$language
     step "  under the sanitizers" $built/sanitized/guards_$language

@@ -30,6 +30,11 @@ files() {
     (cd "$1" && find . ! -type d | sort | paste -sd ' ')
 }
 
+due_functions() {
+    echo "harbour_broken harbour_examine harbour_lawful harbour_lawful_file harbour_read harbour_rows harbour_run" \
+        "harbour_write"
+}
+
 due_files() {
     echo "./include/harbour.h ./lib/libharbour.a ./lib/libharbour.so ./lib/libharbour.so.$major" \
         "./lib/libharbour.so.$version ./lib/pkgconfig/harbour.pc"
@@ -96,8 +101,7 @@ from_the_archive() {
 installed_under() {
     local prefix=$1
     same "what is installed" "$(files "$prefix")" "$(due_files)"
-    same "what can be seen" "$(visible "$prefix/lib/libharbour.so")" \
-        "harbour_broken harbour_examine harbour_lawful harbour_rows harbour_run"
+    same "what can be seen" "$(visible "$prefix/lib/libharbour.so")" "$(due_functions)"
     same "soname" "$(soname "$prefix/lib/libharbour.so")" "libharbour.so.$major"
     same "what runs when it is loaded" "$(runs_when_loaded "$prefix/lib/libharbour.so")" 0
     same "pkg-config's version" "$(pkg-config --modversion harbour)" "$version"

@@ -7,23 +7,33 @@ may take its slot b beside it. Boats, slots, pairs and rows count from 0.
     >>> tables = Tables((2, 2), [(0, 1)], [[0b10, 0b01]])
     >>> tables.run()
     Decided(plan=(0, 1), checks=2, trials=2)
+
+A file holds the same as bytes, and one harbour has one file.
+
+    >>> file = tables.to_bytes()
+    >>> Tables.from_bytes(file).run().plan, lawful_file(file, (0, 0))
+    ((0, 1), False)
 """
 
 import ctypes
 import operator
 import os
 from itertools import chain
-from typing import Any, Iterable, NamedTuple, Optional, Sequence, SupportsIndex, Tuple
+from typing import Any, Iterable, NamedTuple, Optional, Sequence, SupportsIndex, Tuple, Type, TypeVar, Union
 
 __version__ = "2.0.1"  # that of the library; only another first number means another library
 
-__all__ = ["BT", "CBJ", "BM", "FC", "FC_CBJ", "AMPLE", "Tables", "Decided", "Refused", "Undecided"]
+__all__ = ["BT", "CBJ", "BM", "FC", "FC_CBJ", "AMPLE", "Tables", "lawful_file", "Decided", "Refused", "Undecided"]
 
 BT, CBJ, BM, FC, FC_CBJ = 1, 2, 3, 4, 5
 AMPLE = 2**64 - 1
 
+_BytesLike = Union[bytes, bytearray, memoryview]
+_Own = TypeVar("_Own", bound="Tables")
+
 _BYTE = 255
 _WORK = 8192
+_SIZE_ROOM, _PAIR_ROOM = 255, 2 * 65535  # what a file can ask for: its counts have one byte and two
 _FINE = _LAWFUL = _UNBROKEN = _SOLVED = 0
 _UNLAWFUL = _BROKEN = _NO_PLAN = 1
 _ALLOWANCES = {2: "checks", 3: "trials"}  # by the answer that says which one ran out
@@ -45,13 +55,21 @@ _CAUSES = {
     9: "there are fewer than 8,192 working words",
     10: "the given plan has not one slot for each boat",
     11: "the given plan has a slot that boat {} does not have",
+    21: "the mark at byte {} of the file is unknown or misplaced",
+    22: "the file ends at byte {}, inside a mark or record or before ED",
+    23: "byte {} of the file names a lower boat that is not in SZ",
+    24: "the count at byte {} of the file, in ED, is not that of the PR records",
+    25: "bytes stand after ED, from byte {} of the file on",
+    26: "the memory lent is too small for what would be written there",
 }
 
 
 class Refused(ValueError):
-    """What the library refuses: its number (1 to 4, 51 to 54, 6 to 11), and the place of it, 0 where none is named.
+    """What the library refuses: its number (1 to 4, 51 to 54, 6 to 11, and of a file 21 to 26), and the place of it, 0
+    where none is named.
 
-    The place of 51 to 54 is a byte of the pairs, two bytes to a pair; pair says which.
+    The place of 51 to 54 is a byte of the pairs, two bytes to a pair; pair says which. The place of 21 to 25 is a byte
+    of the file, that of 22 the file's length. All other numbers speak of tables, also of those that a file holds.
     """
 
     def __init__(self, number: int, place: int) -> None:
@@ -96,6 +114,14 @@ class _Part(ctypes.Structure):
     _fields_ = [(name, ctypes.c_uint64) for name in ("start", "length")]
 
 
+class _ReadReply(ctypes.Structure):
+    _fields_ = [(name, ctypes.c_uint64) for name in ("answer", "place", "boats", "pair_bytes", "row_words")]
+
+
+class _Written(ctypes.Structure):
+    _fields_ = [(name, ctypes.c_uint64) for name in ("answer", "place", "length")]
+
+
 _Work = ctypes.c_uint64 * _WORK
 _LENT_BYTES = (ctypes.POINTER(ctypes.c_uint8), ctypes.c_size_t)
 _LENT_WORDS = (ctypes.POINTER(ctypes.c_uint64), ctypes.c_size_t)
@@ -107,6 +133,9 @@ _FUNCTIONS = {
     "harbour_lawful": (_Reply, _TABLES + _LENT_BYTES),
     "harbour_broken": (_Reply, _TABLES + _LENT_BYTES),
     "harbour_rows": (_Part, _TABLES + _TWO_NUMBERS),
+    "harbour_read": (_ReadReply, _LENT_BYTES + _TABLES),
+    "harbour_write": (_Written, _TABLES + _LENT_BYTES),
+    "harbour_lawful_file": (ctypes.c_uint64, _LENT_BYTES + _LENT_BYTES + _TABLES),
 }
 
 
@@ -173,13 +202,36 @@ def _lent_words(values: Iterable[int]) -> Tuple[Any, int]:
     return (ctypes.c_uint64 * len(held))(*held), len(held)
 
 
-def _answer(reply: _Reply, *known: int) -> int:
+def _file_of(data: _BytesLike) -> bytes:
+    """A copy of the bytes; bytes() alone would take a number for a length."""
+    return bytes(memoryview(data))
+
+
+def _rooms(file_bytes: int) -> Tuple[Any, int, Any, int, Any, int]:
+    """Memory for all that a file of so many bytes can hold: each of its words takes 8 of them."""
+    words = file_bytes // 8
+    return ((ctypes.c_uint8 * _SIZE_ROOM)(), _SIZE_ROOM, (ctypes.c_uint8 * _PAIR_ROOM)(), _PAIR_ROOM,
+            (ctypes.c_uint64 * words)(), words)
+
+
+def _cut(unit: Any, room: Any, length: int) -> Tuple[Any, int]:
+    """The beginning of a room, in memory of its own."""
+    if length > len(room):
+        raise RuntimeError("the harbour's library read tables that are not there")
+    return (unit * length).from_buffer_copy(room), length
+
+
+def _answer(reply: Union[_Reply, _ReadReply, _Written], *known: int) -> int:
     """The reply's answer, one of the known; a refusal is raised, and so is what nobody knows."""
     if reply.answer in known:
         return reply.answer
     if reply.answer - _REFUSED in _CAUSES:
         raise Refused(reply.answer - _REFUSED, reply.place)
-    raise RuntimeError(f"the harbour's library gave an answer that is not known: {reply.answer}")
+    raise _not_known(reply.answer)
+
+
+def _not_known(answer: int) -> RuntimeError:
+    return RuntimeError(f"the harbour's library gave an answer that is not known: {answer}")
 
 
 class Tables:
@@ -198,6 +250,29 @@ class Tables:
             raise Refused(_ROW_WORDS, 0)
         _answer(reply, _FINE)
         self._parts = parts
+
+    @classmethod
+    def from_bytes(cls: Type[_Own], data: _BytesLike) -> _Own:
+        """The tables of a file. Refused is raised for a fault in the bytes, and then for tables that are not fine."""
+        file = _lent_bytes(_file_of(data))
+        rooms = sizes, _, pairs, _, rows, _ = _rooms(file[1])
+        reply = _library.harbour_read(*file, *rooms)
+        _answer(reply, _FINE)
+        tables = cls.__new__(cls)
+        tables._parts = (_cut(ctypes.c_uint8, sizes, reply.boats) + _cut(ctypes.c_uint8, pairs, reply.pair_bytes)
+                         + _cut(ctypes.c_uint64, rows, reply.row_words))
+        return tables
+
+    def to_bytes(self) -> bytes:
+        """The file that from_bytes makes the same tables of again; other tables have another file."""
+        _, boats, _, pair_bytes, _, row_words = self._parts
+        length = 7 + boats + 2 * pair_bytes + 8 * row_words  # SZ and ED have 7 bytes beside the sizes; each PR has 4
+        file = (ctypes.c_uint8 * length)()
+        reply = _library.harbour_write(*self._parts, file, length)
+        _answer(reply, _FINE)
+        if reply.length != length:
+            raise RuntimeError("the harbour's library wrote a file of another length")
+        return bytes(file)
 
     def run(self, method: SupportsIndex = FC_CBJ, checks: SupportsIndex = AMPLE,
             trials: SupportsIndex = AMPLE) -> Decided:
@@ -232,3 +307,17 @@ class Tables:
         if len(shown) != part.length:
             raise RuntimeError("the harbour's library showed rows that are not there")
         return shown
+
+
+def lawful_file(data: _BytesLike, plan: Iterable[SupportsIndex]) -> bool:
+    """Is the plan lawful for the tables of a file? As Tables.from_bytes(data).is_lawful(plan), in one call."""
+    file, slots = _file_of(data), _bytes_of(plan, "the slot of boat {}")
+    answer = _library.harbour_lawful_file(*_lent_bytes(file), *_lent_bytes(slots), *_rooms(len(file)))
+    if answer in (_LAWFUL, _UNLAWFUL):
+        return answer == _LAWFUL
+    try:
+        Tables.from_bytes(file).is_lawful(slots)  # one number has no place: those that name it refuse as well
+    except Refused as refused:
+        if refused.number == answer - _REFUSED:
+            raise
+    raise _not_known(answer)

@@ -14,7 +14,7 @@ import unittest
 from unittest import mock
 
 import oonjaluvai
-from oonjaluvai import AMPLE, BM, BT, CBJ, FC, FC_CBJ, Decided, Refused, Tables, Undecided
+from oonjaluvai import AMPLE, BM, BT, CBJ, FC, FC_CBJ, Decided, Refused, Tables, Undecided, lawful_file
 
 METHODS = (BT, CBJ, BM, FC, FC_CBJ)
 APART = (2, 1)  # two slots each, and never the same one
@@ -51,6 +51,14 @@ def queens(boats):
     rows = [[sum(1 << b for b in range(boats) if b != a and abs(a - b) != high - low) for a in range(boats)]
             for low, high in pairs]
     return Tables([boats] * boats, pairs, rows)
+
+
+def file_of(sizes, pairs=(), count=None):
+    """A file of any bytes: each pair is its boats and its words; the count is right unless it is given."""
+    records = [b"PR" + bytes((lower, higher)) + b"".join(word.to_bytes(8, "little") for word in words)
+               for lower, higher, words in pairs]
+    return (b"SZ" + bytes((len(sizes),)) + bytes(sizes) + b"".join(records) + b"ED"
+            + (len(records) if count is None else count).to_bytes(2, "little"))
 
 
 class Trying(unittest.TestCase):
@@ -241,6 +249,143 @@ class Refusals(Trying):
         self.assertEqual(tables.run(), ((0, 1), 2, 2))
 
 
+class Files(Trying):
+    TWO = bytes.fromhex("53 5A 02 01 01 50 52 00 01 01 00 00 00 00 00 00 00 45 44 01 00")
+
+    def refused_file(self, number, place, data, plan=()):
+        """By both, whatever the plan."""
+        self.refused(number, place, Tables.from_bytes, data)
+        self.refused(number, place, lawful_file, data, plan)
+
+    def test_two_boats_of_size_1(self):
+        tables = Tables((1, 1), [(0, 1)], [[1]])
+        self.assertEqual(tables.to_bytes(), self.TWO)
+        self.assertIs(type(tables.to_bytes()), bytes)
+        self.assertEqual(Tables.from_bytes(self.TWO).run(BT), ((0, 0), 1, 2))
+        self.assertIs(lawful_file(self.TWO, (0, 0)), True)
+
+    def test_each_case_is_the_same_again(self):
+        for name, (tables, _, _) in CASES.items():
+            with self.subTest(name):
+                file = tables.to_bytes()
+                again = Tables.from_bytes(file)
+                self.assertEqual(again.to_bytes(), file)
+                self.assertEqual([bytes(part) for part in again._parts[::2]],
+                                 [bytes(part) for part in tables._parts[::2]])
+                self.assertEqual(again._parts[1::2], tables._parts[1::2])
+        self.assertEqual(len({tables.to_bytes() for tables, _, _ in CASES.values()}), len(CASES))
+
+    def test_what_is_read_is_run_and_asked(self):
+        for name, tables, method, due in each_run():
+            with self.subTest(name):
+                self.assertEqual(Tables.from_bytes(tables.to_bytes()).run(method), due)
+        again = Tables.from_bytes(Tables((1, 2, 3), [(0, 2), (1, 2)], [[5], [6, 7]]).to_bytes())
+        self.assertEqual((again.rows_of(0, 2), again.rows_of(1, 2), again.rows_of(0, 1)), ((5,), (6, 7), ()))
+
+    def test_low_bytes_come_first(self):
+        row = 0x0102030405060708
+        file = Tables((1, 64), [(0, 1)], [[row]]).to_bytes()
+        self.assertEqual(file, b"SZ\2\1\x40PR\0\1\x08\7\6\5\4\3\2\1ED\1\0")
+        self.assertEqual(Tables.from_bytes(file).rows_of(0, 1), (row,))
+
+    def test_the_largest(self):
+        pairs = [(low, high) for low in range(64) for high in range(low + 1, 64)]
+        rows = [[AMPLE - low * high - slot for slot in range(64)] for low, high in pairs]
+        file = Tables([64] * 64, pairs, rows).to_bytes()
+        self.assertEqual(len(file), 1040327)
+        self.assertEqual(file, file_of([64] * 64, [pair + (each,) for pair, each in zip(pairs, rows)]))
+        self.assertEqual(Tables.from_bytes(file).to_bytes(), file)
+
+    def test_whatever_is_bytes(self):
+        twice = bytes(byte for byte in self.TWO for _ in range(2))
+        for data in (self.TWO, bytearray(self.TWO), memoryview(self.TWO), memoryview(twice)[::2],
+                     (ctypes.c_uint8 * len(self.TWO))(*self.TWO)):
+            self.assertEqual(Tables.from_bytes(data).to_bytes(), self.TWO)
+            self.assertIs(lawful_file(data, (0, 0)), True)
+
+    def test_what_is_no_bytes(self):
+        for data in (self.TWO.hex(), list(self.TWO), len(self.TWO), None, True):
+            self.assertRaises(TypeError, Tables.from_bytes, data)
+            self.assertRaises(TypeError, lawful_file, data, ())
+
+    def test_later_changes_of_the_bytes_have_no_effect(self):
+        data = bytearray(self.TWO)
+        tables = Tables.from_bytes(data)
+        data[:] = bytes(len(data))
+        self.assertEqual(tables.to_bytes(), self.TWO)
+
+    def test_a_class_of_ones_own(self):
+        class Own(Tables):
+            pass
+        self.assertIs(type(Own.from_bytes(self.TWO)), Own)
+
+    def test_lawful(self):
+        for tables, plan in ((A, ()), (B, (0,)), (C, (0, 1)), (C, (1, 0)), (E, (1, 1, 0))):
+            self.assertIs(lawful_file(tables.to_bytes(), iter(plan)), True)
+        for plan in ((0, 0, 0), (0, 0, 1), (0, 1, 0), (0, 1, 1)):
+            self.assertIs(lawful_file(D.to_bytes(), plan), False)
+
+    def test_the_plan_is_refused_after_the_file(self):
+        for plan in ((), (0,), (0, 1, 0), (0, 5, 0)):
+            self.refused(10, 0, lawful_file, C.to_bytes(), plan)
+        for plan, boat in (((2, 0, 0), 0), ((0, 0, 1), 2), ((0, 255, 1), 1)):
+            self.refused(11, boat, lawful_file, E.to_bytes(), plan)
+        self.refused_file(25, 21, self.TWO + b"x", (9,))
+        self.refused_file(7, 0, file_of((1, 1), [(0, 1, [2])]), (9,))
+        self.no_fit("slot of boat 1 ", lawful_file, C.to_bytes(), (0, 256))
+        self.assertRaises(TypeError, lawful_file, D.to_bytes(), D.run().plan)
+
+    def test_each_cut_is_22_at_its_length(self):
+        for tables in (A, E, G):
+            file = tables.to_bytes()
+            for length in range(len(file)):
+                self.refused_file(22, length, file[:length])
+
+    def test_marks(self):
+        for data, place in ((b"XY", 0), (b"PR\0", 0), (b"ED\0\0", 0), (b"sz\0ED\0\0", 0), (b"ZS", 0),
+                            (b"SZ\1\1SZ\1\1ED\0\0", 4), (b"SZ\0XX", 3), (b"SZ\0WL", 3), (b"SZ\0OP", 3),
+                            (self.TWO.replace(b"ED", b"DE"), 17), (self.TWO.replace(b"PR", b"PD"), 5)):
+            self.refused_file(21, place, data)
+
+    def test_a_mark_that_is_cut_is_22(self):
+        for data in (b"", b"X", b"SZ\0X", self.TWO[:17] + b"X"):
+            self.refused_file(22, len(data), data)
+
+    def test_a_lower_boat_that_is_not_there(self):
+        self.refused_file(23, 5, b"SZ\0PR\0")
+        self.refused_file(23, 7, b"SZ\2\1\1PR\x09")
+        self.refused_file(23, 7, b"SZ\2\1\1PR\2\0")
+        self.refused_file(23, 19, self.TWO[:17] + b"PR\xff")
+
+    def test_the_count(self):
+        for count in (0, 2, 256, 257, 65535):
+            self.refused_file(24, 19, file_of((1, 1), [(0, 1, [1])], count))
+            self.refused_file(24, 19, file_of((1, 1), [(0, 1, [1])], count) + b"x")
+        self.refused_file(24, 5, file_of((), (), 1))
+        self.refused_file(24, 4 + 4 * 65536 + 2, file_of((0,), [(0, 0, ())] * 65536, 0))
+
+    def test_bytes_after_the_end(self):
+        for rest in (b"\0", b"ED\1\0", b"PR\0\1", self.TWO):
+            self.refused_file(25, 21, self.TWO + rest)
+
+    def test_the_examination_of_what_was_read(self):
+        one = [1]
+        for sizes, pairs, number, place in (
+                ([1] * 65, [], 2, 0), ([0] * 255, [], 2, 0), ([255] * 255, [(254, 0, [AMPLE] * 255)], 2, 0),
+                ((1, 0), [], 3, 1), ((65,), [], 3, 0), ((255,), [(0, 0, [0] * 255)], 3, 0),
+                ((1,), [(0, 0, one)] * 2017, 4, 0), ((1,), [(0, 0, one)] * 65535, 4, 0),
+                ((1, 1), [(0, 2, one)], 51, 1), ((1, 1), [(1, 255, one)], 51, 1), ((1, 1), [(1, 1, one)], 52, 1),
+                ((1, 1), [(1, 0, one)], 53, 0), ((1, 1), [(0, 1, one)] * 2, 54, 2),
+                ((1, 1, 1), [(0, 2, one), (0, 1, one)], 54, 2), ((1, 2), [(0, 1, [4])], 7, 0),
+                ((2, 2, 1), [(0, 1, (3, 3)), (0, 2, (1, 1 << 63))], 7, 3)):
+            with self.subTest(number=number, pairs=len(pairs)):
+                self.refused_file(number, place, file_of(sizes, pairs))
+
+    def test_the_examination_takes_what_is_fine(self):
+        self.assertEqual(Tables.from_bytes(file_of([64] * 64)).run(BT), ((0,) * 64, 0, 64))
+        self.assertEqual(Tables.from_bytes(b"SZ\0ED\0\0").run(), ((), 0, 0))
+
+
 class NothingWraps(Trying):
     def test_sizes(self):
         for size in (256, 257, 300, -1, -255, AMPLE + 2, 10**5000):
@@ -309,10 +454,11 @@ class Memory(Trying):
         tables = Tables(iter((2, 2)), iter([iter((0, 1))]), iter([iter(APART)]))
         self.assertEqual((tables.run(BT), tables.is_lawful(iter((1, 0)))), (((0, 1), 2, 3), True))
 
-    def lent(self, name, call, *given):
-        """What the library's function is lent in a call."""
+    def lent(self, name, call, *given, **reply):
+        """What the library's function is lent in a call; its reply is all 0 but for what is said."""
+        made = oonjaluvai._FUNCTIONS[name][0](**reply)
         with mock.patch.object(oonjaluvai, "_library") as library:
-            getattr(library, name).return_value = oonjaluvai._Reply(0, 0, 0, 0)
+            getattr(library, name).return_value = getattr(made, "value", made)
             call(*given)
         return getattr(library, name).call_args[0]
 
@@ -331,6 +477,27 @@ class Memory(Trying):
             self.assertEqual(len(lengths), {"harbour_run": 5, "harbour_lawful": 4, "harbour_examine": 3}[name])
             for length, said in lengths:
                 self.assertEqual(length, said)
+
+    def test_a_file_gets_all_the_memory_that_it_can_ask_for(self):
+        for data in (b"", bytes(7), bytes(8), bytes(1000)):
+            words = len(data) // 8
+            for name, lent in (("read", self.lent("harbour_read", Tables.from_bytes, data)),
+                               ("lawful_file", self.lent("harbour_lawful_file", lawful_file, data, (1, 2, 3)))):
+                self.assertEqual((len(lent[0]), lent[1]), (len(data), len(data)))
+                if name == "lawful_file":
+                    self.assertEqual((bytes(lent[2]), lent[3]), (bytes((1, 2, 3)), 3))
+                self.assertEqual([len(part) for part in lent[-6::2]], [255, 131070, words])
+                self.assertEqual(list(lent[-5::2]), [255, 131070, words])
+
+    def test_what_is_read_has_memory_of_its_own(self):
+        tables = Tables.from_bytes(G.to_bytes())
+        lent = self.lent("harbour_run", tables.run)
+        self.assertEqual([len(part) for part in lent[1:7:2]], [4, 6, 6])
+        self.assertEqual(lent[2:8:2], (4, 6, 6))
+
+    def test_a_file_is_written_into_its_length(self):
+        lent = self.lent("harbour_write", G.to_bytes, length=71)
+        self.assertEqual((len(lent[6]), lent[7]), (71, 71))
 
     def test_each_run_has_working_words_of_its_own(self):
         first, second = self.lent("harbour_run", D.run), self.lent("harbour_run", D.run)
@@ -360,20 +527,20 @@ class Memory(Trying):
 
 class Exceptions(Trying):
     def test_a_refusal_is_told_in_one_line_with_its_place(self):
-        for number in (1, 2, 3, 4, 51, 52, 53, 54, 6, 7, 8, 9, 10, 11):
+        for number in (1, 2, 3, 4, 51, 52, 53, 54, 6, 7, 8, 9, 10, 11, 21, 22, 23, 24, 25, 26):
             told = str(Refused(number, 47))
             self.assertIn(f"number {number}:", told)
             self.assertNotIn("\n", told)
             self.assertNotIn("{", told)
-            self.assertEqual("47" in told, number in (3, 51, 52, 53, 54, 7, 11))
+            self.assertEqual("47" in told, number in (3, 51, 52, 53, 54, 7, 11, 21, 22, 23, 24, 25))
             self.assertEqual("pair 23" in told, number in (51, 52, 53, 54))
-        for number in (5, 12, 50, 55):
+        for number in (5, 12, 20, 27, 50, 55):
             self.assertEqual(str(Refused(number, 47)), f"refused, number {number}: at place 47")
 
     def test_a_refusal_names_the_pair_of_its_byte(self):
         for number in (51, 52, 53, 54):
             self.assertEqual([Refused(number, byte).pair for byte in (0, 1, 2, 4031)], [0, 0, 1, 2015])
-        for number in (1, 2, 3, 4, 5, 6, 7, 8, 9, 10, 11, 50, 55):
+        for number in (1, 2, 3, 4, 5, 6, 7, 8, 9, 10, 11, 21, 22, 23, 24, 25, 26, 50, 55):
             self.assertIsNone(Refused(number, 47).pair)
 
     def test_undecided_is_told_as_undecided(self):
@@ -395,7 +562,7 @@ class Exceptions(Trying):
 class Library(Trying):
     def answered(self, name, answer, call, *given):
         with mock.patch.object(oonjaluvai, "_library") as library:
-            getattr(library, name).return_value = oonjaluvai._Reply(answer, 0, 0, 0)
+            getattr(library, name).return_value = oonjaluvai._FUNCTIONS[name][0](answer)
             self.assertRaisesRegex(RuntimeError, f"not known: {answer}$", call, *given)
 
     def test_an_answer_that_is_not_known(self):
@@ -407,6 +574,27 @@ class Library(Trying):
         for answer in (1, 2, 3, 100, 112, AMPLE):
             self.answered("harbour_examine", answer, Tables, (2, 2), [(0, 1)], [APART])
             self.answered("harbour_examine", answer, Tables, (2, 2), [(0, 1)], [])
+            self.answered("harbour_read", answer, Tables.from_bytes, b"")
+            self.answered("harbour_write", answer, C.to_bytes)
+
+    def test_an_answer_to_the_desk_that_is_not_known(self):
+        """A refusal that the reading does not make is one of them."""
+        for data, answers in ((C.to_bytes(), (2, 99, 100, 107, 112, 121, AMPLE)), (b"XY", (2, 100, 107, 122, AMPLE))):
+            for answer in answers:
+                with mock.patch.object(oonjaluvai._library, "harbour_lawful_file", return_value=answer):
+                    self.assertRaisesRegex(RuntimeError, f"not known: {answer}$", lawful_file, data, (0, 1))
+
+    def test_tables_that_are_not_there(self):
+        for lengths in ((256, 0, 0), (0, 131071, 0), (0, 0, 2), (AMPLE, AMPLE, AMPLE)):
+            with mock.patch.object(oonjaluvai, "_library") as library:
+                library.harbour_read.return_value = oonjaluvai._ReadReply(0, 0, *lengths)
+                self.assertRaisesRegex(RuntimeError, "not there", Tables.from_bytes, bytes(15))
+
+    def test_a_file_of_another_length(self):
+        for length in (0, 28, 30, AMPLE):
+            with mock.patch.object(oonjaluvai, "_library") as library:
+                library.harbour_write.return_value = oonjaluvai._Written(0, 0, length)
+                self.assertRaisesRegex(RuntimeError, "another length", C.to_bytes)
 
     def test_rows_that_are_not_there(self):
         for start, length in ((0, 3), (2, 1), (1, 2), (AMPLE, 1), (0, AMPLE)):
@@ -415,22 +603,23 @@ class Library(Trying):
                 self.assertRaises(RuntimeError, C.rows_of, 0, 1)
 
     def test_each_function_says_what_it_takes_and_gives(self):
-        lengths = {"run": 13, "examine": 6, "lawful": 8, "broken": 8, "rows": 8}
-        for name, length in lengths.items():
+        lengths = {"run": (13, 32), "examine": (6, 32), "lawful": (8, 32), "broken": (8, 32), "rows": (8, 16),
+                   "read": (8, 40), "write": (8, 24), "lawful_file": (10, 8)}
+        self.assertEqual({"harbour_" + name for name in lengths}, set(oonjaluvai._FUNCTIONS))
+        for name, (given, reply) in lengths.items():
             function = getattr(oonjaluvai._library, "harbour_" + name)
-            self.assertEqual(len(function.argtypes), length)
-            self.assertEqual(ctypes.sizeof(function.restype), 16 if name == "rows" else 32)
+            self.assertEqual((len(function.argtypes), ctypes.sizeof(function.restype)), (given, reply))
 
     def test_the_interpreter_goes_on_during_a_call(self):
         self.assertNotIsInstance(oonjaluvai._library, ctypes.PyDLL)
 
     def test_what_is_public(self):
-        self.assertEqual(set(oonjaluvai.__all__), {"BT", "CBJ", "BM", "FC", "FC_CBJ", "AMPLE", "Tables", "Decided",
-                                                   "Refused", "Undecided"})
+        self.assertEqual(set(oonjaluvai.__all__), {"BT", "CBJ", "BM", "FC", "FC_CBJ", "AMPLE", "Tables", "lawful_file",
+                                                   "Decided", "Refused", "Undecided"})
 
     def test_the_example(self):
         tried = doctest.testmod(oonjaluvai)
-        self.assertEqual((tried.failed, tried.attempted), (0, 2))
+        self.assertEqual((tried.failed, tried.attempted), (0, 4))
 
 
 class Loading(unittest.TestCase):

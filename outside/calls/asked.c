@@ -1,5 +1,6 @@
 #include "asked.h"
 
+#include "asked_files.h"
 #include "tally.h"
 
 terms ample(uint64_t method, const harbour_tables *given) {
@@ -105,4 +106,6 @@ void refused_by_all(const char *what, const harbour_tables *given, uint64_t answ
     lawful_is(what, given, plan, given->n, answer, place);
     broken_is(what, given, plan, given->n, answer, place);
     rows_are(what, given, 0, 1, 0, 0);
+    unwritten(what, given, answer, place);
+    if (answer != HARBOUR_REFUSED_ROW_WORDS) read_from_file(what, given, answer, place);
 }

@@ -22,7 +22,8 @@ void broken_is(const char *what, const harbour_tables *given, const uint8_t *pla
 void rows_are(const char *what, const harbour_tables *given, uint64_t lower, uint64_t higher,
     uint64_t start, uint64_t length);
 
-/* Tables that every function refuses, under every method. */
+/* Tables that every function refuses, under every method; from a file too, where they stand in one. (The
+ * rows in a file are always as many as its pairs need.) */
 void refused_by_all(const char *what, const harbour_tables *given, uint64_t answer, uint64_t place);
 
 #endif

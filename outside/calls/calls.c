@@ -10,8 +10,12 @@ int main(int words, char **word) {
     answers();
     refusals();
     several_faults();
+    files();
+    file_refusals();
+    several_file_faults();
     nothing_lent();
     guarded();
+    guarded_files();
 #ifdef __cplusplus
     with_containers();
 #endif

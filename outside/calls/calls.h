@@ -14,11 +14,17 @@ void answers(void);
 void refusals(void);
 void several_faults(void);
 
+/* Files: what is answered of those that are read and written, each refusal at its limits, several at once. */
+void files(void);
+void file_refusals(void);
+void several_file_faults(void);
+
 /* NULL with length 0 for each part. */
 void nothing_lent(void);
 
 /* The functions that end in _t, where something is owed and where nothing is; outside/guards has every slip. */
 void guarded(void);
+void guarded_files(void);
 
 #ifdef __cplusplus
 /* The library beside the containers of C++. */

@@ -24,20 +24,32 @@ const harbour_tables five_boats = {five_sizes, 5, five_pairs, 8, five_rows, 8};
 
 enum { SOME_MORE = 512 };
 
+static void list_all_pairs(uint8_t *pairs) {
+    for (unsigned lower = 0; lower < HARBOUR_BOATS; lower++) {
+        for (unsigned higher = lower + 1; higher < HARBOUR_BOATS; higher++) {
+            *pairs++ = (uint8_t)lower;
+            *pairs++ = (uint8_t)higher;
+        }
+    }
+}
+
 harbour_tables crowd(size_t boats, size_t pair_bytes, size_t row_words) {
     static uint8_t sizes[SOME_MORE], pairs[2 * HARBOUR_PAIRS + SOME_MORE];
     static uint64_t rows[HARBOUR_PAIRS + SOME_MORE];
-    size_t pair = 0;
     memset(sizes, 1, sizeof sizes);
-    for (size_t lower = 0; lower < HARBOUR_BOATS; lower++) {
-        for (size_t higher = lower + 1; higher < HARBOUR_BOATS; higher++) {
-            pairs[2 * pair] = (uint8_t)lower;
-            pairs[2 * pair + 1] = (uint8_t)higher;
-            rows[pair] = 1;
-            pair += 1;
-        }
-    }
+    list_all_pairs(pairs);
+    for (size_t pair = 0; pair < HARBOUR_PAIRS; pair++) rows[pair] = 1;
     harbour_tables made = {sizes, boats, pairs, pair_bytes, rows, row_words};
+    return made;
+}
+
+harbour_tables fullest(void) {
+    static uint8_t sizes[HARBOUR_BOATS], pairs[2 * HARBOUR_PAIRS];
+    static uint64_t rows[HARBOUR_ROWS];
+    memset(sizes, HARBOUR_SLOTS, sizeof sizes);
+    list_all_pairs(pairs);
+    for (size_t word = 0; word < HARBOUR_ROWS; word++) rows[word] = (word + 1) * UINT64_C(0x9e3779b97f4a7c15);
+    harbour_tables made = {sizes, sizeof sizes, pairs, sizeof pairs, rows, HARBOUR_ROWS};
     return made;
 }
 

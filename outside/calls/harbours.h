@@ -12,6 +12,9 @@ extern const harbour_tables five_boats;
 /* The first boats of a harbour of 64, each of one slot, with all 2,016 pairs listed and allowed. */
 harbour_tables crowd(size_t boats, size_t pair_bytes, size_t row_words);
 
+/* The largest harbour: 64 boats of 64 slots, all pairs listed, and rows of which no two are alike. */
+harbour_tables fullest(void);
+
 /* So many boats of one size, and no pair. */
 harbour_tables lone_boats(size_t boats, uint8_t size);
 

@@ -1,4 +1,5 @@
 #include "asked.h"
+#include "asked_files.h"
 #include "calls.h"
 #include "harbours.h"
 
@@ -12,6 +13,8 @@ static void solved_by_all(const char *what, const harbour_tables *given, uint64_
     examine_is(what, given, HARBOUR_FINE, 0);
     lawful_is(what, given, first, given->n, HARBOUR_LAWFUL, 0);
     broken_is(what, given, first, given->n, HARBOUR_UNBROKEN, 0);
+    filed_and_read(what, given);
+    read_from_file(what, given, HARBOUR_LAWFUL, 0);
 }
 
 static void methods(void) {

@@ -1,4 +1,5 @@
 #include "asked.h"
+#include "asked_files.h"
 #include "calls.h"
 #include "harbours.h"
 
@@ -67,6 +68,15 @@ static void run_with(unsigned faults, size_t way, uint64_t method) {
     run_is("a run with several faults", &made.given, under, due, faults == 0 ? plan : NULL);
 }
 
+/* Where the tables stand in a file, the rows there are never of a wrong number. */
+static void ask_of_file(const spoiled *made, unsigned of_tables, size_t way) {
+    const harbour_reply due = first(of_tables, way), in_file = first(of_tables & ~(1u << 6), way);
+    if (due.answer != HARBOUR_FINE) unwritten("tables with several faults", &made->given, due.answer, due.place);
+    if (in_file.answer != HARBOUR_FINE) {
+        read_from_file("a file of tables with several faults", &made->given, in_file.answer, in_file.place);
+    }
+}
+
 static void ask_with(unsigned faults, size_t way) {
     const unsigned of_tables = faults & ((2u << LAST_OF_TABLES) - 1);
     uint8_t plan[] = {1, 0, 0, 0, 0};
@@ -79,6 +89,7 @@ static void ask_with(unsigned faults, size_t way) {
     rows_are("tables with several faults", &made.given, 1, 4, of_tables == 0 ? 5 : 0, of_tables == 0 ? 2 : 0);
     lawful_is("a plan with several faults", &made.given, plan, bytes, due.answer, due.place);
     broken_is("a plan with several faults", &made.given, plan, bytes, due.answer, due.place);
+    ask_of_file(&made, of_tables, way);
 }
 
 /* Sets without a bad pair are gone through with the first way alone. */

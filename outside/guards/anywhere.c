@@ -1,7 +1,7 @@
 #include "guarded.h"
 #include "guards.h"
 
-enum { ROUNDS = 100000 };
+enum { ROUNDS = 160000 };
 
 /* A number of 128 bits, so that no end of a part wraps. */
 __extension__ typedef unsigned __int128 wide;

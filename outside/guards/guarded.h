@@ -4,15 +4,22 @@
 
 #include "heard.h"
 
+/* Any reply, as its numbers in their order; 0 after the last. */
+enum { REPLIED = 5 };
+typedef struct {
+    uint64_t number[REPLIED];
+} replied;
+
 typedef struct {
     const char *name, *kinds;    /* of its pointers: b bytes, w words; B and W where they are written */
     uint64_t places[PARTS];      /* of its pointers, among the plain function's parameters */
-    harbour_reply (*ask)(const part *parts);
-    harbour_reply played, owed;  /* its replies where the plain function is called, and where not, but for the place */
+    replied (*ask)(const part *parts);
+    replied played, owed;        /* its replies where the plain function is called, and where not, but for the place */
     uint64_t numbers[NUMBERS];   /* with which it is asked */
 } guarded;
 
-enum { GUARDED = 5 };
+/* In the order of the list. */
+enum { RUN, EXAMINE, LAWFUL, BROKEN, ROWS, READ, WRITE, LAWFUL_FILE, GUARDED };
 
 extern const guarded every_guarded[GUARDED];
 

@@ -7,16 +7,22 @@ static void hear_part(size_t at, const void *start, size_t length) {
     last_heard.parts[at].length = length;
 }
 
+/* The tables, or the memory lent for them, from this part on. */
+static void hear_three(size_t at, const uint8_t *sizes, size_t n, const uint8_t *pairs, size_t pair_bytes,
+    const uint64_t *rows, size_t row_words) {
+    hear_part(at, sizes, n);
+    hear_part(at + 1, pairs, pair_bytes);
+    hear_part(at + 2, rows, row_words);
+}
+
 static void hear_tables(const uint8_t *sizes, size_t n, const uint8_t *pairs, size_t pair_bytes,
     const uint64_t *rows, size_t row_words) {
     last_heard.calls += 1;
-    hear_part(0, sizes, n);
-    hear_part(1, pairs, pair_bytes);
-    hear_part(2, rows, row_words);
+    hear_three(0, sizes, n, pairs, pair_bytes, rows, row_words);
 }
 
 static harbour_reply played(void) {
-    harbour_reply reply = {PLAYED_ANSWER, PLAYED_PLACE, PLAYED_CHECKS, PLAYED_TRIALS};
+    harbour_reply reply = {PLAYED, PLAYED + 1, PLAYED + 2, PLAYED + 3};
     return reply;
 }
 
@@ -55,9 +61,35 @@ harbour_reply harbour_broken(const uint8_t *sizes, size_t n, const uint8_t *pair
 
 harbour_part harbour_rows(const uint8_t *sizes, size_t n, const uint8_t *pairs, size_t pair_bytes,
     const uint64_t *rows, size_t row_words, uint64_t lower, uint64_t higher) {
-    harbour_part part = {PLAYED_ANSWER, PLAYED_PLACE};
+    harbour_part part = {PLAYED, PLAYED + 1};
     hear_tables(sizes, n, pairs, pair_bytes, rows, row_words);
     last_heard.numbers[0] = lower;
     last_heard.numbers[1] = higher;
     return part;
+}
+
+harbour_read_reply harbour_read(const uint8_t *file, size_t file_bytes, uint8_t *sizes, size_t size_room,
+    uint8_t *pairs, size_t pair_room, uint64_t *rows, size_t row_room) {
+    harbour_read_reply reply = {PLAYED, PLAYED + 1, PLAYED + 2, PLAYED + 3, PLAYED + 4};
+    last_heard.calls += 1;
+    hear_part(0, file, file_bytes);
+    hear_three(1, sizes, size_room, pairs, pair_room, rows, row_room);
+    return reply;
+}
+
+harbour_written harbour_write(const uint8_t *sizes, size_t n, const uint8_t *pairs, size_t pair_bytes,
+    const uint64_t *rows, size_t row_words, uint8_t *file, size_t file_room) {
+    harbour_written reply = {PLAYED, PLAYED + 1, PLAYED + 2};
+    hear_tables(sizes, n, pairs, pair_bytes, rows, row_words);
+    hear_part(3, file, file_room);
+    return reply;
+}
+
+uint64_t harbour_lawful_file(const uint8_t *file, size_t file_bytes, const uint8_t *given, size_t given_bytes,
+    uint8_t *sizes, size_t size_room, uint8_t *pairs, size_t pair_room, uint64_t *rows, size_t row_room) {
+    last_heard.calls += 1;
+    hear_part(0, file, file_bytes);
+    hear_part(1, given, given_bytes);
+    hear_three(2, sizes, size_room, pairs, pair_room, rows, row_room);
+    return PLAYED;
 }

@@ -21,7 +21,7 @@ typedef struct {
 
 extern heard last_heard;
 
-/* What the played functions reply. */
-enum { PLAYED_ANSWER = 71, PLAYED_PLACE, PLAYED_CHECKS, PLAYED_TRIALS };
+/* What the played functions reply, number after number: as many of these as a reply has. */
+enum { PLAYED = 71 };
 
 #endif

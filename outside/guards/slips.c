@@ -135,7 +135,7 @@ static void overlaps(const guarded *g, size_t earlier, size_t later) {
 
 /* A pointer that is amiss comes before an overlap; of overlaps, that of the first pointer that has one. */
 static void order_of_tests(void) {
-    const guarded *run = &every_guarded[0];
+    const guarded *run = &every_guarded[RUN];
     part parts[PARTS];
     lay_apart(run, parts);
     parts[3] = parts[0];
@@ -154,6 +154,25 @@ static void order_of_tests(void) {
     is_called(run, "the tables overlap one another", parts);
 }
 
+/* The same, where the parts that are written come last and a file is read. */
+static void order_of_tests_of_files(void) {
+    const guarded *read = &every_guarded[READ], *desk = &every_guarded[LAWFUL_FILE];
+    part parts[PARTS];
+    lay_apart(read, parts);
+    parts[1] = parts[0];
+    parts[3].start = 0;
+    is_owed(read, "sizes overlap the file, rows are NULL", parts, 3);
+    lay_apart(read, parts);
+    parts[2] = parts[1];
+    parts[3] = lay(parts[0].start, 8);
+    is_owed(read, "sizes overlap pairs, rows overlap the file", parts, 2);
+    lay_apart(desk, parts);
+    parts[1] = parts[0];
+    is_called(desk, "the plan is in the file", parts);
+    parts[2] = parts[1];
+    is_owed(desk, "and the sizes are written over it", parts, 2);
+}
+
 void slips(void) {
     for (const guarded *g = every_guarded; g < every_guarded + GUARDED; g++) {
         part parts[PARTS];
@@ -168,4 +187,5 @@ void slips(void) {
         }
     }
     order_of_tests();
+    order_of_tests_of_files();
 }

@@ -16,4 +16,13 @@ void ask_plan(const lent_tables *lent, char *line);
 /* s LOWER HIGHER */
 void ask_rows(const lent_tables *lent, char *line);
 
+/* w ROOM: the tables written as a file; one that is written is read again. */
+void ask_write(const lent_tables *lent, char *line);
+
+/* f FILE SIZES PAIRS ROWS: a file read; one that is not refused is written again. */
+void ask_read(char *line);
+
+/* d FILE PLAN SIZES PAIRS ROWS: the desk's question about a file and a plan. */
+void ask_desk(char *line);
+
 #endif

@@ -1,7 +1,7 @@
 /* library [--exact] < PROBLEMS > REPLIES
  *
- * Puts the library behind the lines of `second vectors` and `second fresh`
- * (outside/second/src/stored/mod.rs describes both), so that its replies can be held to the second
+ * Puts the library behind the lines of `second vectors`, `second files` and `second fresh`
+ * (outside/second/src/stored/mod.rs describes them), so that its replies can be held to the second
  * program's. What is compared here, guards and unchanged memory, is tallied on standard error. */
 #include <stdio.h>
 #include <stdlib.h>
@@ -38,6 +38,12 @@ static void answer(char *line, lent_tables *lent) {
         ask_plan(lent, line);
     } else if (strcmp(kind, "s") == 0) {
         ask_rows(lent, line);
+    } else if (strcmp(kind, "w") == 0) {
+        ask_write(lent, line);
+    } else if (strcmp(kind, "f") == 0) {
+        ask_read(line);
+    } else if (strcmp(kind, "d") == 0) {
+        ask_desk(line);
     } else {
         no_line(kind);
     }

@@ -32,8 +32,9 @@ static int none(const char *field) {
     return strcmp(field, "-") == 0;
 }
 
+static const char digits[] = "0123456789abcdef";
+
 static unsigned digit(char of) {
-    const char *digits = "0123456789abcdef";
     const char *found = of == '\0' ? NULL : strchr(digits, of);
     if (found == NULL) no_line("a hex digit is missing");
     return (unsigned)(found - digits);
@@ -63,7 +64,10 @@ uint64_t *hex_words(const char *field, size_t *words) {
 
 void write_bytes(const uint8_t *bytes, size_t length) {
     if (length == 0) putchar('-');
-    for (size_t at = 0; at < length; at++) printf("%02x", bytes[at]);
+    for (size_t at = 0; at < length; at++) {
+        putchar(digits[bytes[at] / 16]);
+        putchar(digits[bytes[at] % 16]);
+    }
 }
 
 void write_words(const uint64_t *words, size_t length) {

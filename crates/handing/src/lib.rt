@@ -4,14 +4,17 @@ ghost use Rattle.problem.specs.Replies.{answerTold, refusalTold};
 ghost use Rattle.problem.specs.declared.Answer.the-variants.{Undecided};
 ghost use Rattle.tables.specs.Replies.{examinedTold};
 ghost use Rattle.questions.specs.Replies.{judgedTold, brokenTold};
-ghost use Rattle.handing.specs.Handed.{handed, fineOrRefused};
+ghost use Rattle.writer.specs.Replies.{writtenTold};
+ghost use Rattle.handing.specs.Handed.{handed, fineOrRefused, handedRead, handedWritten};
 use problem::Allowance;
 use problem::Answer;
 use problem::Refusal;
 use problem::Reply;
 use questions::Broken;
 use questions::Judged;
+use reader::FileRead;
 use tables::Examined;
+use writer::Written;
 
 // An answer by its number, its place, and both counts.
 #[repr(C)]
@@ -20,6 +23,24 @@ pub struct HarbourReply {
     pub place: u64,
     pub checks: u64,
     pub trials: u64,
+}
+
+// An answer about a file by its number and its place, and how much is written to each part.
+#[repr(C)]
+pub struct HarbourReadReply {
+    pub answer: u64,
+    pub place: u64,
+    pub boats: u64,
+    pub pair_bytes: u64,
+    pub row_words: u64,
+}
+
+// The writer's answer by its number and its place, and the file's length.
+#[repr(C)]
+pub struct HarbourWritten {
+    pub answer: u64,
+    pub place: u64,
+    pub length: u64,
 }
 
 impl HarbourReply {
@@ -32,6 +53,8 @@ impl HarbourReply {
     pub const UNDECIDED_BY_TRIALS: u64 = 3;
 
     pub const FINE: u64 = 0;
+
+    pub const WRITTEN: u64 = 0;
 
     pub const LAWFUL: u64 = 0;
 
@@ -115,5 +138,41 @@ pub fn broken(found: Broken) -> HarbourReply
         Broken::Nowhere => numbered(HarbourReply::UNBROKEN, 0, 0, 0),
         Broken::Pair(pair) => numbered(HarbourReply::BROKEN, pair as u64, 0, 0),
         Broken::Refused(why) => refused(why, 0, 0),
+    }
+}
+
+pub fn file_read(reply: FileRead) -> HarbourReadReply
+    ensures { λ r. ⌜ r ≡ handedRead (examinedTold (reply .found)) (reply .boats) (reply .«pair_bytes») (reply .«row_words») ⌝ }
+{
+    let found = reply.found;
+    let told = examined(found);
+    HarbourReadReply {
+        answer: told.answer,
+        place: told.place,
+        boats: reply.boats as u64,
+        pair_bytes: reply.pair_bytes as u64,
+        row_words: reply.row_words as u64,
+    }
+}
+
+fn file_written(answer: u64, place: u64, length: u64) -> HarbourWritten
+    ensures { λ r. ⌜ r ≡ record { answer = answer; place = place; length = length } ⌝ }
+{
+    HarbourWritten {
+        answer,
+        place,
+        length,
+    }
+}
+
+pub fn written(found: Written) -> HarbourWritten
+    ensures { λ r. ⌜ r ≡ handedWritten (writtenTold found) ⌝ }
+{
+    match found {
+        Written::Done(length) => file_written(HarbourReply::WRITTEN, 0, length as u64),
+        Written::Refused(why) => {
+            let told = refused(why, 0, 0);
+            file_written(told.answer, told.place, 0)
+        }
     }
 }

@@ -4,9 +4,14 @@ ghost use Rattle.problem.specs.Tables.{tables};
 ghost use Rattle.tables.specs.Examination.{examination};
 ghost use Rattle.questions.specs.Questions.{lawfulQuestion, brokenQuestion, rowsShown};
 ghost use Rattle.runs.specs.Runs.{runResult};
-ghost use Rattle.handing.specs.Handed.{handed, fineOrRefused};
-ghost use Rattle.harbour.specs.Handed.{handedRun, handedPart};
+ghost use Rattle.files.specs.Rooms.{rooms};
+ghost use Rattle.files.specs.Reader.{readResult, deskResult};
+ghost use Rattle.files.specs.Writer.{writeAnswer, writtenRoom};
+ghost use Rattle.handing.specs.Handed.{handed, fineOrRefused, handedWritten};
+ghost use Rattle.harbour.specs.Handed.{handedRun, handedPart, handedFile};
+use handing::HarbourReadReply;
 use handing::HarbourReply;
+use handing::HarbourWritten;
 
 // A part of the caller's rows.
 #[repr(C)]
@@ -80,4 +85,44 @@ pub extern "C" fn harbour_rows(
         start: part.from as u64,
         length: (part.to - part.from) as u64,
     }
+}
+
+#[no_mangle]
+pub extern "C" fn harbour_read(
+    file: &[u8],
+    sizes: &mut [u8],
+    pairs: &mut [u8],
+    rows: &mut [u64],
+) -> HarbourReadReply
+    ensures { λ r. ⌜ r ≡ handedFile (readResult (now (file .entry)) (rooms (now (sizes .entry)) (now (pairs .entry)) (now (rows .entry)))) ⌝ }
+    ensures { λ r. ⌜ rooms (now (sizes .exit)) (now (pairs .exit)) (now (rows .exit)) ≡ readResult (now (file .entry)) (rooms (now (sizes .entry)) (now (pairs .entry)) (now (rows .entry))) .rooms ⌝ }
+{
+    handing::file_read(reader::read(file, sizes, pairs, rows))
+}
+
+#[no_mangle]
+pub extern "C" fn harbour_write(
+    sizes: &[u8],
+    pairs: &[u8],
+    rows: &[u64],
+    file: &mut [u8],
+) -> HarbourWritten
+    ensures { λ r. ⌜ r ≡ handedWritten (writeAnswer (tables (now (sizes .entry)) (now (pairs .entry)) (now (rows .entry))) (now (file .entry))) ⌝ }
+    ensures { λ r. ⌜ now (file .exit) ≡ writtenRoom (tables (now (sizes .entry)) (now (pairs .entry)) (now (rows .entry))) (now (file .entry)) ⌝ }
+{
+    handing::written(writer::write(sizes, pairs, rows, file))
+}
+
+#[no_mangle]
+pub extern "C" fn harbour_lawful_file(
+    file: &[u8],
+    given: &[u8],
+    sizes: &mut [u8],
+    pairs: &mut [u8],
+    rows: &mut [u64],
+) -> u64
+    ensures { λ r. ⌜ r ≡ deskResult (now (file .entry)) (now (given .entry)) (rooms (now (sizes .entry)) (now (pairs .entry)) (now (rows .entry))) .answer .number ⌝ }
+    ensures { λ r. ⌜ rooms (now (sizes .exit)) (now (pairs .exit)) (now (rows .exit)) ≡ deskResult (now (file .entry)) (now (given .entry)) (rooms (now (sizes .entry)) (now (pairs .entry)) (now (rows .entry))) .rooms ⌝ }
+{
+    handing::judged(reader::is_lawful_by(file, given, sizes, pairs, rows)).answer
 }

@@ -5,7 +5,8 @@ ghost use lib.ListN.{length};
 ghost use Rattle.problem.specs.Tables.{size, listed, lower, higher, place, start, bit as bitOf};
 ghost use Rattle.problem.specs.Rising.{Rising};
 
-fn wide(x: u8) -> usize
+// A byte as a number of boats, slots or bytes.
+pub fn wide(x: u8) -> usize
     ensures { λ r. ⌜ (r ≡ x) × (r < 256) ⌝ }
 {
     x as usize

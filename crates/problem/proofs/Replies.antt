@@ -5,7 +5,7 @@ use Prim.Native.Nat.{ℕ, _-_, _≤_}
 use native.Mathlib.Omega.{arith}
 use lib.ListN.{length, getD, List·getD-eq-default}
 use Rattle.problem.specs.declared.Refusal.{Refusal}
-use Rattle.problem.specs.declared.Refusal.the-variants.{Method, Boats, Size, PairBytes, PairNoBoat, PairSameBoat, PairHigherFirst, PairNotRising, RowWords, RowBit, PlanMemory, WorkMemory, GivenLength, GivenSlot}
+use Rattle.problem.specs.declared.Refusal.the-variants.{Method, Boats, Size, PairBytes, PairNoBoat, PairSameBoat, PairHigherFirst, PairNotRising, RowWords, RowBit, PlanMemory, WorkMemory, GivenLength, GivenSlot, Mark, FileEnd, FileBoat, FileCount, FileRest, Room}
 use Rattle.problem.specs.declared.Allowance.the-variants.{Checks, Trials}
 use Rattle.problem.specs.declared.Answer.{Answer}
 use Rattle.problem.specs.declared.Answer.the-variants.{Solved, NoPlan, Undecided, Refused}
@@ -16,7 +16,7 @@ read-back tell back is x y e = sym (is x) ∙ ap back e ∙ is y
 
 -- ---- a refusal
 refusalOf : ℕ → ℕ → Refusal
-refusalOf number place = getD to11 number (getD from51 (number - 51) Method)
+refusalOf number place = getD to11 number (getD from21 (number - 21) (getD from51 (number - 51) Method))
   where
     -- no refusal has 0 or 5
     to11 : List Refusal
@@ -34,6 +34,9 @@ refusalOf number place = getD to11 number (getD from51 (number - 51) Method)
         ∷ GivenLength
         ∷ GivenSlot place
         ∷ []
+
+    from21 : List Refusal
+    from21 = Mark place ∷ FileEnd place ∷ FileBoat place ∷ FileCount place ∷ FileRest place ∷ Room ∷ []
 
     from51 : List Refusal
     from51 = PairNoBoat place ∷ PairSameBoat place ∷ PairHigherFirst place ∷ PairNotRising place ∷ []
@@ -57,6 +60,12 @@ refusal-back PlanMemory = refl
 refusal-back WorkMemory = refl
 refusal-back GivenLength = refl
 refusal-back (GivenSlot boat) = refl
+refusal-back (Mark byte) = refl
+refusal-back (FileEnd byte) = refl
+refusal-back (FileBoat byte) = refl
+refusal-back (FileCount byte) = refl
+refusal-back (FileRest byte) = refl
+refusal-back Room = refl
 
 pub refusal-one : (x y : Refusal) → refusalTold x ≡ refusalTold y → x ≡ y
 refusal-one = read-back refusalTold toldRefusal refusal-back

@@ -1,8 +1,8 @@
--- What each reply says on paper: the number and the values that documents 01 and 02 give it. (Document 01, 'Numbers given back'; document 02, No. 1.)
+-- What each reply says on paper: the number and the values that documents 01 and 02 give it. (Document 01, 'Numbers given back'; document 02, No. 1 and No. 2.)
 use mathlib.Core.List.{List, [], _∷_}
 use Prim.Native.Nat.{ℕ, _+_}
 use Rattle.problem.specs.declared.Refusal.{Refusal}
-use Rattle.problem.specs.declared.Refusal.the-variants.{Method, Boats, Size, PairBytes, PairNoBoat, PairSameBoat, PairHigherFirst, PairNotRising, RowWords, RowBit, PlanMemory, WorkMemory, GivenLength, GivenSlot}
+use Rattle.problem.specs.declared.Refusal.the-variants.{Method, Boats, Size, PairBytes, PairNoBoat, PairSameBoat, PairHigherFirst, PairNotRising, RowWords, RowBit, PlanMemory, WorkMemory, GivenLength, GivenSlot, Mark, FileEnd, FileBoat, FileCount, FileRest, Room}
 use Rattle.problem.specs.declared.Allowance.the-variants.{Checks, Trials}
 use Rattle.problem.specs.declared.Answer.{Answer}
 use Rattle.problem.specs.declared.Answer.the-variants.{Solved, NoPlan, Undecided, Refused}
@@ -23,6 +23,12 @@ refusalNumber PlanMemory = 8
 refusalNumber WorkMemory = 9
 refusalNumber GivenLength = 10
 refusalNumber (GivenSlot boat) = 11
+refusalNumber (Mark byte) = 21
+refusalNumber (FileEnd byte) = 22
+refusalNumber (FileBoat byte) = 23
+refusalNumber (FileCount byte) = 24
+refusalNumber (FileRest byte) = 25
+refusalNumber Room = 26
 
 abbrev pub refusalPlace : Refusal → ℕ
 refusalPlace Method = 0
@@ -39,6 +45,12 @@ refusalPlace PlanMemory = 0
 refusalPlace WorkMemory = 0
 refusalPlace GivenLength = 0
 refusalPlace (GivenSlot boat) = boat
+refusalPlace (Mark byte) = byte
+refusalPlace (FileEnd byte) = byte
+refusalPlace (FileBoat byte) = byte
+refusalPlace (FileCount byte) = byte
+refusalPlace (FileRest byte) = byte
+refusalPlace Room = 0
 
 -- ---- any reply: a number, and its values. A refusal counts from 100, so that its number is no other reply's
 pub record Told : Type 0 where

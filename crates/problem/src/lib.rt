@@ -124,6 +124,12 @@ pub enum Refusal {
     WorkMemory,
     GivenLength,
     GivenSlot(usize),
+    Mark(usize),
+    FileEnd(usize),
+    FileBoat(usize),
+    FileCount(usize),
+    FileRest(usize),
+    Room,
 }
 
 // The allowance that ran out.
@@ -171,6 +177,12 @@ pub fn number_of(why: Refusal) -> Numbered
         Refusal::WorkMemory => at(9, 0),
         Refusal::GivenLength => at(10, 0),
         Refusal::GivenSlot(boat) => at(11, boat),
+        Refusal::Mark(byte) => at(21, byte),
+        Refusal::FileEnd(byte) => at(22, byte),
+        Refusal::FileBoat(byte) => at(23, byte),
+        Refusal::FileCount(byte) => at(24, byte),
+        Refusal::FileRest(byte) => at(25, byte),
+        Refusal::Room => at(26, 0),
     }
 }
 

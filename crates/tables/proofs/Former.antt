@@ -103,6 +103,9 @@ module _ (n : ℕ) (pairs : List ℕ) (k : ℕ) where
       let second : (2 * k + 1) / 2 ≡ k = omega arith in
       first-of-pair (waysBad n pairs k) ((refl, first), ((refl, second), ((refl, second), ((refl, first), ((refl, first), tt)))))
 
+  pub way-number : wayBad n pairs k .cause ≡ true → ofPairs (says (wayBad n pairs k) .number) ≡ true
+  way-number e = way-of-pair e .0
+
   way-as-5 : wayBad n pairs k .cause ≡ true → asFormerly (says (wayBad n pairs k)) ≡ refused 5 k
   way-as-5 e = let p = way-of-pair e in as-5 (says (wayBad n pairs k)) (p .0) ∙ ap (refused 5) (p .1)
 

@@ -1,6 +1,7 @@
 // Tables, and the questions about them: all lines up to the next tables.
 ghost use Prim.Native.Nat.{_<_, _≤_};
 ghost use lib.ListN.{length};
+use crate::files;
 use crate::given;
 use crate::run;
 use crate::say;
@@ -75,6 +76,9 @@ fn question(kind: u8, text: &[u8], at: usize, sizes: &[u8], pairs: &[u8], rows: 
         b'r' => run::run(text, at, sizes, pairs, rows),
         b'p' => given::given(text, at, sizes, pairs, rows),
         b's' => shown::shown(text, at, sizes, pairs, rows),
+        b'w' => files::write(text, at, sizes, pairs, rows),
+        b'f' => files::read(text, at),
+        b'd' => files::ask(text, at),
         _ => say::text(b"no question\n"),
     }
 }

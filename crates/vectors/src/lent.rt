@@ -1,7 +1,16 @@
-// The memory lent to a run: what it holds before, and how far it has changed after.
+// Memory that is lent: what it holds before, and, of a run, how far it has changed after.
 ghost use Prim.Native.Nat.{_≤_};
 ghost use lib.ListN.{length};
 use crate::say;
+
+// Another number in each of 256 bytes.
+pub fn fill_bytes(bytes: &mut [u8]) {
+    let mut k: usize = 0;
+    while k < bytes.len() {
+        bytes[k] = (255 - k % 256) as u8;
+        k += 1;
+    }
+}
 
 // Another number in each word, so that a word moved shows too; none is 0.
 pub fn fill_words(words: &mut [u64]) {

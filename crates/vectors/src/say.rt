@@ -5,7 +5,9 @@ use problem::Refusal;
 use problem::Reply;
 use questions::Broken;
 use questions::Judged;
+use reader::FileRead;
 use tables::Examined;
+use writer::Written;
 
 pub fn text(words: &[u8]) {
     io::write_all(1, words);
@@ -81,6 +83,49 @@ fn undecided(by: Allowance) {
         Allowance::Checks => answer(2, 0),
         Allowance::Trials => answer(3, 0),
     }
+}
+
+// The file's length, 0 where it is not written.
+pub fn written(found: Written) {
+    text(b"w");
+    match found {
+        Written::Done(length) => {
+            answer(0, 0);
+            number(length as u64);
+        }
+        Written::Refused(why) => {
+            refused(why);
+            number(0);
+        }
+    }
+}
+
+// What is said of the tables, and how much is written to each part.
+pub fn file_read(reply: FileRead) {
+    text(b"f");
+    let found = reply.found;
+    match found {
+        Examined::Fine(_) => answer(0, 0),
+        Examined::Refused(why) => refused(why),
+    }
+    number(reply.boats as u64);
+    number(reply.pair_bytes as u64);
+    number(reply.row_words as u64);
+}
+
+// The one number that the desk is given.
+pub fn asked(found: Judged) {
+    text(b"d");
+    match found {
+        Judged::Lawful => number(0),
+        Judged::Unlawful => number(1),
+        Judged::Refused(why) => number_of(why),
+    }
+}
+
+fn number_of(why: Refusal) {
+    let told = problem::number_of(why);
+    number(from_100(told.number));
 }
 
 // Before a field that holds many: a lone '-' where it holds none.

@@ -1,6 +1,6 @@
-//! An independent second program for the harbour's problem, written from docs/01-scope.md and request
-//! No. 1 of docs/02-change-requests.md alone. It is meant to be obviously right, not fast: visits are
-//! nested calls, and nothing is ever undone.
+//! An independent second program for the harbour's problem, written from docs/01-scope.md and requests
+//! No. 1 and No. 2 of docs/02-change-requests.md alone. It is meant to be obviously right, not fast:
+//! visits are nested calls, nothing is ever undone, and a file is read and written record by record.
 #![forbid(unsafe_code)]
 
 pub mod allowances;
@@ -9,6 +9,7 @@ pub mod brute;
 pub mod cases;
 pub mod counter;
 pub mod examine;
+pub mod file;
 pub mod generate;
 pub mod harbour;
 pub mod methods;

@@ -7,6 +7,8 @@
 //! second vectors replies        writes the reply to each of its lines
 //! second fresh problems KIND SEED COUNT    writes COUNT tables of a kind with the same questions
 //! second fresh replies KIND SEED COUNT     writes the reply to each of those lines
+//! second files problems         writes the same questions about spoiled and about long files
+//! second files replies          writes the reply to each of those lines
 //! second kinds                  writes the kinds' names
 //!
 //! A problem is one line of eight fields, separated by spaces; a lone '|' between fields is written
@@ -37,11 +39,12 @@ use second::generate::generate;
 use second::problem::{reply_line, Problem};
 use second::selftest::selftest;
 use second::shapes::KINDS;
-use second::stored::{fresh, groups, problem_lines, reply_lines, Group};
+use second::stored::{every_file, fresh, groups, problem_lines, reply_lines, Group};
 
 const USAGE: &str =
     "second run | gen KIND SEED COUNT | selftest SEED COUNT | cases | vectors problems | vectors replies
-    | fresh problems KIND SEED COUNT | fresh replies KIND SEED COUNT | kinds";
+    | fresh problems KIND SEED COUNT | fresh replies KIND SEED COUNT | files problems | files replies
+    | kinds";
 
 fn main() -> ExitCode {
     let words: Vec<String> = std::env::args().skip(1).collect();
@@ -55,6 +58,8 @@ fn main() -> ExitCode {
         ["vectors", "replies"] => write_text(&reply_lines(&groups())),
         ["fresh", "problems", kind, seed, count] => write_fresh(kind, seed, count, problem_lines),
         ["fresh", "replies", kind, seed, count] => write_fresh(kind, seed, count, reply_lines),
+        ["files", "problems"] => write_text(&problem_lines(&every_file())),
+        ["files", "replies"] => write_text(&reply_lines(&every_file())),
         ["kinds"] => write_text(&format!("{}\nbad\n", KINDS.join("\n"))),
         _ => Err(io::Error::other(USAGE)),
     };

@@ -17,6 +17,18 @@ fn every_kind_from_any_seed() {
 }
 
 #[test]
+fn files_of_every_kind() {
+    for kind in KINDS.into_iter().chain(["bad"]).filter(|&kind| kind != "full") {
+        let problems = fresh(kind, 3, 2).map(|groups| problem_lines(&groups)).expect("a kind");
+        assert!(problems.contains("\nw "), "{kind}");
+        // All 2,016 pairs make a file that is too long to be asked about often.
+        if kind != "crowded" {
+            assert!(problems.contains("\nf ") && problems.contains("\nd "), "{kind}");
+        }
+    }
+}
+
+#[test]
 fn no_other_kind() {
     assert!(fresh("calm", 1, 1).is_none());
 }

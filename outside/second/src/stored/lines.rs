@@ -1,5 +1,6 @@
 //! The two files, line by line.
 
+use super::file_lines::{desk_reply, file_reply, lengths, write_reply};
 use super::{Group, Question, Terms};
 use crate::answer::{Answer, Refusal, Reply};
 use crate::examine::examine;
@@ -39,6 +40,9 @@ fn asked(question: &Question) -> String {
         }
         Question::Plan(plan) => format!("p {}", hex(plan)),
         Question::Rows(lower, higher) => format!("s {lower} {higher}"),
+        Question::Write(room) => format!("w {room}"),
+        Question::File(file, lent) => format!("f {} {}", hex(file), lengths(lent)),
+        Question::Desk(file, plan, lent) => format!("d {} {} {}", hex(file), hex(plan), lengths(lent)),
     }
 }
 
@@ -51,6 +55,9 @@ pub fn reply_lines(groups: &[Group]) -> String {
                 Question::Run(terms) => run_reply(tables, terms),
                 Question::Plan(plan) => plan_reply(tables, plan),
                 Question::Rows(lower, higher) => rows_reply(tables, *lower, *higher),
+                Question::Write(room) => write_reply(tables, *room),
+                Question::File(file, lent) => file_reply(file, lent),
+                Question::Desk(file, plan, lent) => desk_reply(file, plan, lent),
             };
         }
     }
@@ -58,7 +65,7 @@ pub fn reply_lines(groups: &[Group]) -> String {
 }
 
 /// An answer's number and its place.
-fn told(reply: Result<(u64, usize), Refusal>) -> String {
+pub(super) fn told(reply: Result<(u64, usize), Refusal>) -> String {
     let (answer, place) = reply.unwrap_or_else(|refusal| (100 + refusal.number, refusal.place));
     format!("{answer} {place}")
 }

@@ -1,6 +1,6 @@
 //! Which tables are in the stored set; the seeds stand here, so that the set is always the same.
 
-use super::{bad_pairs, by_hand, faults, plans, runs, Group, Question};
+use super::{bad_pairs, by_hand, faults, files, plans, runs, Group, Question};
 use crate::examine::examine;
 use crate::random::Random;
 use crate::shapes::random_tables;
@@ -24,6 +24,9 @@ const KINDS: [(&str, u64, usize); 7] = [
 
 const FAULTS: u64 = 9;
 
+/// Seed of what is asked about the files of all these tables.
+const FILES: u64 = 11;
+
 /// Seed, and how many spoiled tables for each finding of the examination and for none.
 const SPOILED: (u64, usize) = (10, 12);
 
@@ -38,6 +41,8 @@ pub fn groups() -> Vec<Group> {
     }
     groups.extend(of_faults());
     groups.extend(of_spoiled(SPOILED.0, SPOILED.1));
+    files::ask_few(&mut Random::new(FILES), &mut groups);
+    groups.extend(by_hand::file_groups());
     groups
 }
 

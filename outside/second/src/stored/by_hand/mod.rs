@@ -2,6 +2,7 @@
 
 mod cases;
 mod examined;
+mod files;
 mod limits;
 mod runs;
 
@@ -10,6 +11,7 @@ use crate::methods::NAMES;
 use crate::tables::Tables;
 
 pub use cases::of_case;
+pub use files::groups as file_groups;
 pub use limits::all_pairs;
 
 const AMPLE: (u64, u64) = (u64::MAX, u64::MAX);

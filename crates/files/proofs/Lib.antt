@@ -1,0 +1,13 @@
+pub mod Bytes
+pub mod Onward
+pub mod Fates
+pub mod FirstFault
+pub mod Records
+pub mod Written
+pub mod OneFile
+pub mod Limits
+pub mod Numbers
+pub mod Reader
+pub mod Writer
+pub mod Theorems
+pub mod Wrong

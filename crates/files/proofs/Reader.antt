@@ -1,0 +1,116 @@
+-- What the reader and the desk's question leave, once for all that may be asked of the tables as read.
+use mathlib.Core.Path.{_≡_, refl, sym, ap, _∙_}
+use mathlib.Core.Bool.{Bool, true, false}
+use mathlib.Core.List.{List}
+use Prim.Native.Nat.{ℕ, _≤_}
+use native.Mathlib.Omega.{arith}
+use borrow.Author.Tests.{ltb-false}
+use lib.ListN.{length, drop, length-append, length-drop}
+use Rattle.problem.specs.Tables.{Tables}
+use Rattle.problem.specs.Replies.{Told}
+use Rattle.tables.proofs.Bools.{or-neither}
+use Rattle.files.specs.Reading.{Reading, fault, read, reading}
+use Rattle.files.specs.Rooms.{Rooms, tooShort, tooSmall, over}
+use Rattle.files.specs.Reader.{Result, standingResult, unlessSmall, resultOf}
+use Rattle.files.proofs.FirstFault.{fault-is}
+use Rattle.files.proofs.Numbers.{OfFile}
+
+-- nothing is written
+pub record Untouched (m : Rooms) (r : Result) : Type 0 where
+  pub rooms : r .rooms ≡ m
+  pub boats : r .boats ≡ 0
+  pub pairBytes : r .pairBytes ≡ 0
+  pub rowWords : r .rowWords ≡ 0
+
+-- the file is read, the lent memory is enough, and the tables stand there
+pub record Stands (ask : Tables → Told) (file : List ℕ) (m : Rooms) (r : Result) : Type 0 where
+  pub t : Tables
+  pub isRead : reading file ≡ read t
+  pub enough : tooSmall m t ≡ false
+  pub is : r ≡ standingResult ask t m
+
+-- the file is read, and a part of the lent memory is too short
+pub record Small (file : List ℕ) (m : Rooms) : Type 0 where
+  pub t : Tables
+  pub isRead : reading file ≡ read t
+  pub short : tooSmall m t ≡ true
+
+module _ (ask : Tables → Told) (file : List ℕ) (m : Rooms) where
+  pub small-26 : Small file m → resultOf ask (reading file) m .answer .number ≡ 126
+  small-26 s = ap (λ r. resultOf ask r m .answer .number) (s .isRead) ∙ ap (λ b. unlessSmall b ask (s .t) m .answer .number) (s .short)
+
+  pub read-stands : (t : Tables) → reading file ≡ read t → tooSmall m t ≡ false → resultOf ask (reading file) m ≡ standingResult ask t m
+  read-stands t e q = ap (λ r. resultOf ask r m) e ∙ ap (λ b. unlessSmall b ask t m) q
+
+  -- what is asked gives no number of the file
+  module _ (other : (t : Tables) → OfFile (ask t .number) → ⊥) where
+    pub of-file-untouched : OfFile (resultOf ask (reading file) m .answer .number) → Untouched m (resultOf ask (reading file) m)
+    of-file-untouched = by (reading file)
+      where
+        small : (t : Tables) (b : Bool) → OfFile (unlessSmall b ask t m .answer .number) → Untouched m (unlessSmall b ask t m)
+        small t true o = record { rooms = refl; boats = refl; pairBytes = refl; rowWords = refl }
+        small t false o = absurd (other t o)
+
+        by : (r : Reading) → OfFile (resultOf ask r m .answer .number) → Untouched m (resultOf ask r m)
+        by (fault number place after) o = record { rooms = refl; boats = refl; pairBytes = refl; rowWords = refl }
+        by (read t) o = small t (tooSmall m t) o
+
+    pub 26-small : resultOf ask (reading file) m .answer .number ≡ 126 → Small file m
+    26-small = by (reading file) refl
+      where
+        small : (t : Tables) → reading file ≡ read t → (b : Bool) → tooSmall m t ≡ b → unlessSmall b ask t m .answer .number ≡ 126 → Small file m
+        small t e true q n = record { t = t; isRead = e; short = q }
+        small t e false q n = absurd (other t (omega (arith, n)))
+
+        by : (r : Reading) → reading file ≡ r → resultOf ask r m .answer .number ≡ 126 → Small file m
+        by (fault number place after) e n = absurd (omega (arith, n, fault-is file number place after e .upto))
+        by (read t) e n = small t e (tooSmall m t) refl n
+
+  -- any other number: the tables stand
+  pub other-stands : (OfFile (resultOf ask (reading file) m .answer .number) → ⊥) → Stands ask file m (resultOf ask (reading file) m)
+  other-stands = by (reading file) refl
+    where
+      small : (t : Tables) → reading file ≡ read t → (b : Bool) → tooSmall m t ≡ b → (OfFile (unlessSmall b ask t m .answer .number) → ⊥)
+          → Stands ask file m (unlessSmall b ask t m)
+      small t e true q n = absurd (n (omega arith))
+      small t e false q n = record { t = t; isRead = e; enough = q; is = refl }
+
+      by : (r : Reading) → reading file ≡ r → (OfFile (resultOf ask r m .answer .number) → ⊥) → Stands ask file m (resultOf ask r m)
+      by (fault number place after) e n =
+          let f = fault-is file number place after e in
+          absurd (n (omega (arith, f .from), omega (arith, f .upto)))
+      by (read t) e n = small t e (tooSmall m t) refl n
+
+-- ---- no part of the lent memory changes its length
+over-length : (content room : List ℕ) → tooShort room content ≡ false → length (over content room) ≡ length room
+over-length content room e =
+    omega (arith, ltb-false (length room) (length content) e, length-append content (drop (length content) room), length-drop (length content) room)
+
+pub record SameLengths (m : Rooms) (r : Result) : Type 0 where
+  pub sizes : length (r .rooms .sizes) ≡ length (m .sizes)
+  pub pairs : length (r .rooms .pairs) ≡ length (m .pairs)
+  pub rows : length (r .rooms .rows) ≡ length (m .rows)
+
+pub lengths-kept : (ask : Tables → Told) (r : Reading) (m : Rooms) → SameLengths m (resultOf ask r m)
+lengths-kept ask (fault number place after) m = record { sizes = refl; pairs = refl; rows = refl }
+lengths-kept ask (read t) m = by (tooSmall m t) refl
+  where
+    by : (b : Bool) → tooSmall m t ≡ b → SameLengths m (unlessSmall b ask t m)
+    by true q = record { sizes = refl; pairs = refl; rows = refl }
+    by false q =
+        let first = or-neither (tooShort (m .sizes) (t .sizes)) _ q in
+        let others = or-neither (tooShort (m .pairs) (t .pairs)) _ (first .1) in
+        record {
+          sizes = over-length (t .sizes) (m .sizes) (first .0);
+          pairs = over-length (t .pairs) (m .pairs) (others .0);
+          rows = over-length (t .rows) (m .rows) (others .1);
+        }
+
+-- ---- what is asked of the tables has no part in what is written
+pub as-asked : (one other : Tables → Told) (r : Reading) (m : Rooms) → resultOf one r m .rooms ≡ resultOf other r m .rooms
+as-asked one other (fault number place after) m = refl
+as-asked one other (read t) m = by (tooSmall m t)
+  where
+    by : (b : Bool) → unlessSmall b one t m .rooms ≡ unlessSmall b other t m .rooms
+    by true = refl
+    by false = refl

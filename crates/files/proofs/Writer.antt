@@ -1,0 +1,77 @@
+-- What the writer leaves: where the examination refuses, where the memory is too small, and where the file is written.
+use mathlib.Core.Path.{_≡_, refl, sym, ap, _∙_}
+use mathlib.Core.Logic.{⊎-elim}
+use mathlib.Core.Bool.{Bool, true, false}
+use mathlib.Core.List.{List, [], _∷_, _++_}
+use Prim.Native.Nat.{ℕ, _≤_}
+use native.Mathlib.Omega.{arith}
+use borrow.Author.Tests.{ne-eqb, eq-eqb}
+use lib.Dec.{eqb}
+use lib.ListN.{length, take, drop}
+use lib.Seq.{take-at}
+use Rattle.problem.specs.Tables.{Tables}
+use Rattle.problem.specs.Replies.{Told, told, refused}
+use Rattle.tables.specs.Tests.{Test, once, firstOf}
+use Rattle.tables.specs.Applies.{NoneApplies, none, nor, Gives, here}
+use Rattle.tables.specs.Examination.{tests, Fine}
+use Rattle.tables.proofs.Laws.{none-fine, gives-first, first-gives, gives-refused, gives-before, after-none, small-none, fine-none, none-is-fine}
+use Rattle.files.specs.File.{fileOf}
+use Rattle.files.specs.Rooms.{tooShort, over}
+use Rattle.files.specs.Writer.{writeTests, writeAnswer, fileOr, writtenRoom}
+
+-- what the writer says, and what it leaves
+pub record Left (t : Tables) (room : List ℕ) (answer : Told) (after : List ℕ) : Type 0 where
+  pub says : writeAnswer t room ≡ answer
+  pub leaves : writtenRoom t room ≡ after
+
+module _ (t : Tables) (room : List ℕ) where
+  refusing : (w : Told) → 100 ≤ w .number → writeAnswer t room ≡ w → Left t room w room
+  unfolding writtenRoom
+  refusing w l e = record { says = e; leaves = ap (λ b. fileOr b t room) (ap (λ x. eqb (x .number) 0) e ∙ ne-eqb (w .number) 0 (omega arith)) }
+
+  -- the examination's refusal
+  pub write-examined : (w : Told) → Gives (tests t) w → Left t room w room
+  unfolding writeAnswer
+  write-examined w g = refusing w (gives-refused (tests t) w g) (gives-first (writeTests t room) _ w (gives-before (tests t) _ w g))
+
+  module _ (f : Fine t) where
+    last : writeAnswer t room ≡ firstOf (once 26 (tooShort room (fileOf t)) ∷ []) (told 0 (length (fileOf t) ∷ []))
+    unfolding writeAnswer
+    last = after-none (tests t) (once 26 (tooShort room (fileOf t)) ∷ []) _ (fine-none t f)
+
+    -- 26
+    pub write-small : tooShort room (fileOf t) ≡ true → Left t room (refused 26 0) room
+    write-small e = refusing (refused 26 0) (omega arith) (last ∙ gives-first (once 26 (tooShort room (fileOf t)) ∷ []) _ (refused 26 0) (here 0 (omega arith) e (λ j l. absurd (omega arith))))
+
+    -- the file
+    pub write-whole : tooShort room (fileOf t) ≡ false → Left t room (told 0 (length (fileOf t) ∷ [])) (over (fileOf t) room)
+    unfolding writtenRoom
+    write-whole e =
+        let said : writeAnswer t room ≡ told 0 (length (fileOf t) ∷ []) = last ∙ none-fine (once 26 (tooShort room (fileOf t)) ∷ []) _ (nor (λ k l. e) none) in
+        record { says = said; leaves = ap (λ b. fileOr b t room) (ap (λ x. eqb (x .number) 0) said) }
+
+  -- a refusal leaves the memory as it was
+  pub write-refused : 100 ≤ writeAnswer t room .number → writtenRoom t room ≡ room
+  write-refused l = refusing (writeAnswer t room) l refl .leaves
+
+  -- number 0 is said of tables that pass the examination, where the memory is enough; what stands first is then their file
+  pub record Whole : Type 0 where
+    pub fine : Fine t
+    pub enough : tooShort room (fileOf t) ≡ false
+    pub left : Left t room (told 0 (length (fileOf t) ∷ [])) (over (fileOf t) room)
+    pub first : take (length (fileOf t)) (writtenRoom t room) ≡ fileOf t
+
+  pub zero-written : writeAnswer t room .number ≡ 0 → Whole
+  zero-written e = ⊎-elim fine refused-first (first-gives (tests t) (told 0 []))
+    where
+      refused-first : Gives (tests t) (firstOf (tests t) (told 0 [])) → Whole
+      refused-first g = absurd (omega (arith, e, gives-refused (tests t) _ g, ap (λ w. w .number) (write-examined _ g .says)))
+
+      enough : Fine t → (b : Bool) → tooShort room (fileOf t) ≡ b → Whole
+      enough f true q = absurd (omega (arith, e, ap (λ w. w .number) (write-small f q .says)))
+      enough f false q =
+          let w = write-whole f q in
+          record { fine = f; enough = q; left = w; first = ap (take (length (fileOf t))) (w .leaves) ∙ take-at (fileOf t) (drop (length (fileOf t)) room) (length (fileOf t)) refl }
+
+      fine : NoneApplies (tests t) → Whole
+      fine n = enough (none-is-fine t n) (tooShort room (fileOf t)) refl

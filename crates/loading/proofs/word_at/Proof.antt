@@ -1,0 +1,144 @@
+-- The eight bytes, each by its weight.
+use native.Mathlib.Omega.{arith}
+use borrow.Author.Needs.{needs}
+use Rattle.loading.proofs.Filling.{word-number}
+use Rattle.loading.proofs.word_at.Statement.{statement}
+use Rattle.loading.proofs.word_at.Tie as tie
+
+byte-of-word-requires : tie.Need-byte-of-word-requires
+byte-of-word-requires c κs = search needs
+
+add-byte-of-word : tie.Need-add-byte-of-word
+add-byte-of-word c = search needs
+
+byte-of-word-requires-2 : tie.Need-byte-of-word-requires-2
+byte-of-word-requires-2 c κs = search needs
+
+mul-a : tie.Need-mul-a
+mul-a c = search needs
+
+add-a : tie.Need-add-a
+add-a c = search needs
+
+add-byte-of-word-2 : tie.Need-add-byte-of-word-2
+add-byte-of-word-2 c = search needs
+
+byte-of-word-requires-3 : tie.Need-byte-of-word-requires-3
+byte-of-word-requires-3 c κs = search needs
+
+add-byte-of-word-3 : tie.Need-add-byte-of-word-3
+add-byte-of-word-3 c = search needs
+
+byte-of-word-requires-4 : tie.Need-byte-of-word-requires-4
+byte-of-word-requires-4 c κs = search needs
+
+mul-b : tie.Need-mul-b
+mul-b c = search needs
+
+add-b : tie.Need-add-b
+add-b c = search needs
+
+add-byte-of-word-4 : tie.Need-add-byte-of-word-4
+add-byte-of-word-4 c = search needs
+
+byte-of-word-requires-5 : tie.Need-byte-of-word-requires-5
+byte-of-word-requires-5 c κs = search needs
+
+add-byte-of-word-5 : tie.Need-add-byte-of-word-5
+add-byte-of-word-5 c = search needs
+
+byte-of-word-requires-6 : tie.Need-byte-of-word-requires-6
+byte-of-word-requires-6 c κs = search needs
+
+mul-c : tie.Need-mul-c
+mul-c c = search needs
+
+add-c : tie.Need-add-c
+add-c c = search needs
+
+add-byte-of-word-6 : tie.Need-add-byte-of-word-6
+add-byte-of-word-6 c = search needs
+
+byte-of-word-requires-7 : tie.Need-byte-of-word-requires-7
+byte-of-word-requires-7 c κs = search needs
+
+add-byte-of-word-7 : tie.Need-add-byte-of-word-7
+add-byte-of-word-7 c = search needs
+
+byte-of-word-requires-8 : tie.Need-byte-of-word-requires-8
+byte-of-word-requires-8 c κs = search needs
+
+mul-d : tie.Need-mul-d
+mul-d c = search needs
+
+add-d : tie.Need-add-d
+add-d c = search needs
+
+mul-result : tie.Need-mul-result
+mul-result c = search needs
+
+add-result : tie.Need-add-result
+add-result c = search needs
+
+mul-result-2 : tie.Need-mul-result-2
+mul-result-2 c = search needs
+
+add-result-2 : tie.Need-add-result-2
+add-result-2 c = search needs
+
+mul-result-3 : tie.Need-mul-result-3
+mul-result-3 c = search needs
+
+add-result-3 : tie.Need-add-result-3
+add-result-3 c = search needs
+
+returns : tie.Need-returns
+returns c =
+    let a = c .before .before .before .before .before .before .before .before .before .args in
+    omega (
+      arith,
+      word-number (a .file .now) (a .at) (omega arith),
+      c .before .before .before .before .before .before .before .byte-of-word .ensures .0,
+      c .before .before .before .before .before .before .byte-of-word2 .ensures .0,
+      c .before .before .before .before .before .byte-of-word3 .ensures .0,
+      c .before .before .before .before .byte-of-word4 .ensures .0,
+      c .before .before .before .byte-of-word5 .ensures .0,
+      c .before .before .byte-of-word6 .ensures .0,
+      c .before .byte-of-word7 .ensures .0,
+      c .byte-of-word8 .ensures .0,
+    )
+
+pub word-at-spec : {M : Type 1} → statement M
+word-at-spec =
+    tie.close
+    (tie.spec
+    byte-of-word-requires
+    add-byte-of-word
+    byte-of-word-requires-2
+    mul-a
+    add-a
+    add-byte-of-word-2
+    byte-of-word-requires-3
+    add-byte-of-word-3
+    byte-of-word-requires-4
+    mul-b
+    add-b
+    add-byte-of-word-4
+    byte-of-word-requires-5
+    add-byte-of-word-5
+    byte-of-word-requires-6
+    mul-c
+    add-c
+    add-byte-of-word-6
+    byte-of-word-requires-7
+    add-byte-of-word-7
+    byte-of-word-requires-8
+    mul-d
+    add-d
+    mul-result
+    add-result
+    mul-result-2
+    add-result-2
+    mul-result-3
+    add-result-3
+    returns)

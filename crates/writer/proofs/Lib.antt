@@ -1,0 +1,4 @@
+pub mod Puts
+pub mod Contents
+pub mod Pairs
+pub mod Answers
