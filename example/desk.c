@@ -36,7 +36,7 @@ int show_plans(const problem *of, const file *kept, const uint8_t *plan) {
     return show_moved(of, kept, plan) && as_promised;
 }
 
-/* Only a fault in the bytes leaves the memory as it was: tables are read before they are refused. */
+/* A file that is refused by 21 to 26 leaves the memory as it was; tables are read before they are refused. */
 static int show_memory(harbour_read_reply reply) {
     const int untouched = memcmp(&lent, &before, sizeof lent) == 0;
     puts(untouched ? "  Nothing was written: the memory that the desk lends is as it was."

@@ -44,8 +44,8 @@ extern "C" {
 
 /* The version of this header, and of the library that it belongs to: a program is to be built anew
  * where the first number has changed. */
-#define HARBOUR_VERSION "2.0.1"
-#define HARBOUR_VERSION_NUMBER 20001    /* 10,000 times the first, 100 times the second, the third */
+#define HARBOUR_VERSION "2.1.0"
+#define HARBOUR_VERSION_NUMBER 20100    /* 10,000 times the first, 100 times the second, the third */
 
 /* limits */
 #define HARBOUR_BOATS 64      /* boats of a harbour */
@@ -102,7 +102,7 @@ extern "C" {
 #define HARBOUR_REFUSED_MARK UINT64_C(121)               /* an unknown or misplaced mark; place: its first byte */
 #define HARBOUR_REFUSED_FILE_END UINT64_C(122)           /* ends in a mark or record or before ED; place: its length */
 #define HARBOUR_REFUSED_FILE_BOAT UINT64_C(123)          /* a PR's lower boat is not in SZ; place: that byte */
-#define HARBOUR_REFUSED_FILE_COUNT UINT64_C(124)         /* ED has a wrong number of PRs; place: its first byte */
+#define HARBOUR_REFUSED_FILE_COUNT UINT64_C(124)         /* ED's count is wrong; place: the count's first byte */
 #define HARBOUR_REFUSED_FILE_REST UINT64_C(125)          /* bytes after ED; place: the first of them */
 #define HARBOUR_REFUSED_ROOM UINT64_C(126)               /* lent memory too small for what would be written there */
 
@@ -153,11 +153,11 @@ typedef struct {
 
 /* Reads a file into lent memory, and examines the tables as read. HARBOUR_BOATS bytes for the sizes,
  * 2 * HARBOUR_PAIRS bytes for the pairs and HARBOUR_ROWS words for the rows suffice for every file that is
- * not refused; less will do where the tables need less. 121 to 126 leave all of the memory as it was. Then
- * the tables are written, and the bytes and words after them stay as they were; the examination refuses
- * with harbour_examine's numbers and places. A refusal by the examination, or of the plan after it in
- * harbour_lawful_file, leaves the tables standing: the one exception to memory that a refusal leaves as it
- * was. */
+ * not refused, and where so much is lent 126 means tables past the limits; less will do where the tables
+ * need less. 121 to 126 leave all of the memory as it was. Then the tables are written, and the bytes and
+ * words after them stay as they were; the examination refuses with harbour_examine's numbers and places. A
+ * refusal by the examination, or of the plan after it in harbour_lawful_file, leaves the tables standing:
+ * the one exception to memory that a refusal leaves as it was. */
 harbour_read_reply harbour_read(const uint8_t *file, size_t file_bytes, uint8_t *sizes, size_t size_room,
     uint8_t *pairs, size_t pair_room, uint64_t *rows, size_t row_room);
 

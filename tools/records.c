@@ -2,7 +2,7 @@
  * of its first byte, up to the end or to the first fault in the bytes, which has the reader's number and place.
  * Whether the tables that are read would be refused is not looked at.
  * `records FILE`, or `records` alone for what comes in. Ends with 0 where the file is whole, with 1 where it is at
- * fault, with 2 where it cannot be read. */
+ * fault, with 2 where it cannot be read or this cannot be said. */
 #include <inttypes.h>
 #include <stdarg.h>
 #include <stdio.h>
@@ -175,6 +175,10 @@ int main(int count, char **word) {
     const state last = in.from == NULL ? AT_FAULT : say_records(&in);
     if (in.from == NULL || ferror(in.from)) {
         perror(name);
+        return 2;
+    }
+    if (fflush(stdout) != 0) {
+        perror("standard output");
         return 2;
     }
     return last == WHOLE ? 0 : 1;

@@ -21,7 +21,7 @@ import os
 from itertools import chain
 from typing import Any, Iterable, NamedTuple, Optional, Sequence, SupportsIndex, Tuple, Type, TypeVar, Union
 
-__version__ = "2.0.1"  # that of the library; only another first number means another library
+__version__ = "2.1.0"  # that of the library; one with the same first number and no lower second one will do
 
 __all__ = ["BT", "CBJ", "BM", "FC", "FC_CBJ", "AMPLE", "Tables", "lawful_file", "Decided", "Refused", "Undecided"]
 
@@ -310,7 +310,10 @@ class Tables:
 
 
 def lawful_file(data: _BytesLike, plan: Iterable[SupportsIndex]) -> bool:
-    """Is the plan lawful for the tables of a file? As Tables.from_bytes(data).is_lawful(plan), in one call."""
+    """Is the plan lawful for the tables of a file? As Tables.from_bytes(data).is_lawful(plan), in one call.
+
+    A slot that is no byte is a ValueError here, whatever the file holds.
+    """
     file, slots = _file_of(data), _bytes_of(plan, "the slot of boat {}")
     answer = _library.harbour_lawful_file(*_lent_bytes(file), *_lent_bytes(slots), *_rooms(len(file)))
     if answer in (_LAWFUL, _UNLAWFUL):

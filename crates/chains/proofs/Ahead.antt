@@ -8,10 +8,10 @@ use lib.ListN.{length, set, length-set}
 use lib.Seq.{getD-set-same, getD-set-other}
 use Rattle.problem.specs.Tables.{Tables, boats, size, start}
 use Rattle.problem.specs.Sane.{Sane}
-use Rattle.problem.proofs.Starts.{start-zero}
+use Rattle.problem.proofs.Starts.{start-zero, start-few}
 use Rattle.words.specs.Layout.{word, ChangedOnly, firstPair, Firsts}
 use Rattle.words.proofs.ChangedOnly.{only-refl, only-trans, only-set}
-use Rattle.words.proofs.Firsts.{first-le, first-zero, start-first, start-few}
+use Rattle.words.proofs.Firsts.{first-le, first-zero, start-first}
 
 abbrev firstRow : Tables → (i : ℕ) → ℕ
 firstRow t i = start (t .sizes) (t .pairs) (firstPair (t .pairs) i)

@@ -15,7 +15,7 @@ use Rattle.files.proofs.Bytes.{below-join}
 use Rattle.files.proofs.Onward.{short, given, from-is}
 
 -- ---- what a record refuses is 21 to 25 and not 22, and the bytes at fault are the record's
-pub record Told (taken number width : ℕ) : Type 0 where
+pub record Tells (taken number width : ℕ) : Type 0 where
   pub from : 21 ≤ number
   pub upto : number ≤ 25
   pub notCut : number ≡ 22 → ⊥
@@ -24,11 +24,11 @@ pub record Told (taken number width : ℕ) : Type 0 where
 
 abbrev pub Proper : (taken : ℕ) → Rest → Type 0
 Proper taken (next k rest) = (bytes : List ℕ) → Proper (taken + k) (rest bytes)
-Proper taken (refuse which width) = Told taken which width
+Proper taken (refuse which width) = Tells taken which width
 Proper taken (over stage t) = Unit {0}
 Proper taken (end t) = Unit {0}
 
-if-proper : (taken : ℕ) (b : Bool) (which width : ℕ) (rest : Rest) → Told taken which width → Proper taken rest → Proper taken (refuseIf b which width rest)
+if-proper : (taken : ℕ) (b : Bool) (which width : ℕ) (rest : Rest) → Tells taken which width → Proper taken rest → Proper taken (refuseIf b which width rest)
 if-proper taken true which width rest p q = p
 if-proper taken false which width rest p q = q
 

@@ -6,6 +6,7 @@ pub mod Records
 pub mod Written
 pub mod OneFile
 pub mod Limits
+pub mod Lengths
 pub mod Numbers
 pub mod Reader
 pub mod Writer

@@ -16,7 +16,7 @@ use Rattle.tables.specs.Applies.{Gives, here, later}
 use Rattle.tables.specs.Examination.{wayBad, tests, fineTold, examination}
 use Rattle.tables.specs.Former.{ofPairs}
 use Rattle.tables.proofs.Former.{way-number}
-use Rattle.tables.proofs.Laws.{none-fine, first-gives}
+use Rattle.tables.proofs.Laws.{none-fine, gives-first, first-gives, large-gives, gives-before}
 use Rattle.questions.specs.Questions.{givenTests, someBroken, yesOrNo, lawfulQuestion}
 use Rattle.questions.proofs.Laws.{planTests}
 
@@ -36,7 +36,7 @@ pairs-other number e = by (eqb number 151) refl (eqb number 152) refl (eqb numbe
     by false p false q false r false s h = absurd (not-both h refl)
 
 -- no test gives nothing
-some-test : {ts : List Test} {w : Told} → Gives ts w → 0 < length ts
+pub some-test : {ts : List Test} {w : Told} → Gives ts w → 0 < length ts
 some-test (here k l p f) = omega arith
 some-test (later f g) = omega arith
 
@@ -74,3 +74,10 @@ module _ (t : Tables) where
       of-plan : {w : Told} → Gives (planTests t given) w → OfFile (w .number) → ⊥
       of-plan (here k l p f) o = omega (arith, o .0)
       of-plan (later a (here k l p f)) o = omega (arith, o .0)
+
+  -- where the examination refuses, the question about a plan says the same
+  pub refused-first : (given : List ℕ) → 100 ≤ examination t .number → lawfulQuestion t given ≡ examination t
+  unfolding examination lawfulQuestion
+  refused-first given l =
+      gives-first (givenTests t given) (yesOrNo (someBroken t given)) (examination t)
+      (gives-before (tests t) (planTests t given) (examination t) (large-gives (tests t) (fineTold t) (omega arith) l))

@@ -2,13 +2,13 @@
 use mathlib.Core.Path.{_≡_, refl, sym, ap, _∙_}
 use mathlib.Core.Logic.{_↔_}
 use mathlib.Core.Bool.{false}
-use mathlib.Core.List.{List, []}
-use Prim.Native.Nat.{ℕ}
+use mathlib.Core.List.{List, [], _∷_}
+use Prim.Native.Nat.{ℕ, _≤_}
 use native.Mathlib.Omega.{arith}
-use lib.ListN.{length, take}
-use Rattle.problem.specs.Tables.{Tables}
+use lib.ListN.{length, getD, take}
+use Rattle.problem.specs.Tables.{Tables, boats}
 use Rattle.problem.specs.Plans.{Lawful}
-use Rattle.problem.specs.Replies.{told}
+use Rattle.problem.specs.Replies.{told, refused}
 use Rattle.tables.specs.Applies.{NoneApplies, none, nor}
 use Rattle.tables.specs.Examination.{tests, fineTold, examination, Fine}
 use Rattle.tables.proofs.Laws.{small-none, none-is-fine}
@@ -19,15 +19,16 @@ use Rattle.files.specs.Bytes.{Below}
 use Rattle.files.specs.File.{fileOf}
 use Rattle.files.specs.Reading.{fault, read, reading}
 use Rattle.files.specs.Limits.{Whole}
-use Rattle.files.specs.Rooms.{Rooms, tooSmall, holding}
-use Rattle.files.specs.Reader.{Result, refusedResult, standingResult, resultOf, readResult, deskResult}
+use Rattle.files.specs.Rooms.{Rooms, tooShort, tooSmall, covering}
+use Rattle.files.specs.Reader.{refusedResult, standingResult, resultOf, readResult, deskResult}
 use Rattle.files.specs.Writer.{writeAnswer, writtenRoom}
 use Rattle.files.proofs.Written.{read-written}
 use Rattle.files.proofs.OneFile.{one-file}
 use Rattle.files.proofs.Limits.{sane-whole, sane-small, file-bytes}
-use Rattle.files.proofs.Numbers.{OfFile, examination-other, lawful-other}
-use Rattle.files.proofs.Reader.{Untouched, Stands, Small, SameLengths, small-26, read-stands, of-file-untouched, 26-small, other-stands, lengths-kept, as-asked}
-use Rattle.files.proofs.Writer.{zero-written}
+use Rattle.files.proofs.Lengths.{rows-few, file-few}
+use Rattle.files.proofs.Numbers.{OfFile, examination-other, lawful-other, refused-first}
+use Rattle.files.proofs.Reader.{Untouched, Stands, TooSmall, SameLengths, small-26, read-stands, of-file-untouched, refused-fault, 26-small, other-stands, lengths-kept, refused-alike, as-asked}
+use Rattle.files.proofs.Writer.{Left, RoomShort, write-small, write-whole, zero-written, 26-short}
 
 -- ---- the file and what it means
 -- tables that pass the examination have a file of bytes, and reading it gives the same tables
@@ -35,6 +36,12 @@ pub fine-written : (t : Tables) → Fine t → Below 256 (fileOf t) × (reading 
 fine-written t f =
     let s = fine-sane t f in
     (file-bytes t (sane-whole t s) (sane-small t s), read-written t (sane-whole t s))
+
+-- what is enough for every file whose tables pass the examination: 64 bytes, 4,032 bytes, 129,024 words, and 1,040,327 bytes for the file
+pub fine-few : (t : Tables) → Fine t → (boats t ≤ 64) × (length (t .pairs) ≤ 4032) × (length (t .rows) ≤ 129024) × (length (fileOf t) ≤ 1040327)
+fine-few t f =
+    let s = fine-sane t f in
+    (s .fewBoats, omega (arith, s .twoBytes, s .fewPairs), rows-few t s, file-few t s)
 
 -- one problem, one file: bytes that are read are the file of what was read
 pub one-problem-one-file : (file : List ℕ) (t : Tables) → Below 256 file → reading file ≡ read t → fileOf t ≡ file
@@ -51,10 +58,20 @@ module _ (file : List ℕ) (m : Rooms) where
   unfolding readResult
   read-refuses-fault number place after e = ap (λ r. resultOf examination r m) e
 
-  -- 26 exactly where the file is read and a part of the lent memory is too short
-  pub read-26-exactly : (readResult file m .answer .number ≡ 126) ↔ Small file m
+  -- and such a refusal is said of no other bytes
+  pub read-refused-has-fault : (number place : ℕ) → number ≤ 25 → 21 ≤ number → readResult file m .answer ≡ refused number place
+      → (after : ℕ) × (reading file ≡ fault number place after)
   unfolding readResult
-  read-26-exactly = (26-small examination file m examination-other, small-26 examination file m)
+  read-refused-has-fault = refused-fault examination file m examination-other
+
+  -- 26 exactly where the file is read and a part of the lent memory is too short; its place is 0, and nothing is written
+  pub read-26-exactly : (readResult file m .answer .number ≡ 126) ↔ TooSmall file m
+  unfolding readResult
+  read-26-exactly = (26-small examination file m examination-other, λ s. ap (λ r. r .answer .number) (small-26 examination file m s))
+
+  pub read-refuses-small : TooSmall file m → readResult file m ≡ refusedResult 26 0 m
+  unfolding readResult
+  read-refuses-small = small-26 examination file m
 
   -- 21 to 26 write nothing
   pub read-refused-untouched : OfFile (readResult file m .answer .number) → Untouched m (readResult file m)
@@ -96,12 +113,28 @@ file-read-fine t m f e =
     let is = read-stands examination (fileOf t) m t (fine-written t f .1) e in
     (is, ap (λ r. r .answer) is ∙ fine-told t f)
 
--- ---- the writer: where it says 0, what stands first in the memory is a file, and reading that gives the tables
-pub write-then-read : (t : Tables) (room : List ℕ) → writeAnswer t room .number ≡ 0
-    → Fine t × (reading (take (length (fileOf t)) (writtenRoom t room)) ≡ read t)
-write-then-read t room e =
-    let w = zero-written t room e in
-    (w .fine, ap reading (w .first) ∙ fine-written t (w .fine) .1)
+-- ---- the writer
+-- where it says 0 and a length, so many bytes of the memory are a file, and reading that gives the tables
+pub write-then-read : (t : Tables) (room : List ℕ) (n : ℕ) → writeAnswer t room ≡ told 0 (n ∷ [])
+    → Fine t × (reading (take n (writtenRoom t room)) ≡ read t)
+write-then-read t room n e =
+    let w = zero-written t room (ap (λ x. x .number) e) in
+    let long : n ≡ length (fileOf t) = ap (λ x. getD (x .values) 0 0) (sym e ∙ w .left .says) in
+    (w .fine, ap (λ k. reading (take k (writtenRoom t room))) long ∙ ap reading (w .first) ∙ fine-written t (w .fine) .1)
+
+-- what was read and is fine is written as the bytes that it was read from
+pub read-then-write : (file : List ℕ) (m : Rooms) (f : FineFile file m) (room : List ℕ) → tooShort room file ≡ false
+    → (writeAnswer (f .t) room ≡ told 0 (length file ∷ [])) × (writtenRoom (f .t) room ≡ covering file room)
+read-then-write file m f room e =
+    let w = write-whole (f .t) room (f .fine) (ap (tooShort room) (f .isFile) ∙ e) in
+    (w .says ∙ ap (λ l. told 0 (length l ∷ [])) (f .isFile), w .leaves ∙ ap (λ l. covering l room) (f .isFile))
+
+-- 26 exactly where the tables pass the examination and the memory is shorter than their file; its place is 0, and nothing is written
+pub write-26-exactly : (t : Tables) (room : List ℕ) → (writeAnswer t room .number ≡ 126) ↔ RoomShort t room
+write-26-exactly t room = (26-short t room, λ s. ap (λ w. w .number) (write-small t room (s .fine) (s .short) .says))
+
+pub write-refuses-small : (t : Tables) (room : List ℕ) → RoomShort t room → Left t room (refused 26 0) room
+write-refuses-small t room s = write-small t room (s .fine) (s .short)
 
 -- ---- the desk's question
 module _ (file given : List ℕ) (m : Rooms) where
@@ -137,9 +170,15 @@ module _ (file given : List ℕ) (m : Rooms) where
           ap (λ r. r .answer) (read-stands (λ t. lawfulQuestion t given) file m (l .t) (l .isRead) (l .enough))
           ∙ yes-lawful (l .t) given (l .fine) (l .lawful)
 
-  pub desk-26-exactly : (deskResult file given m .answer .number ≡ 126) ↔ Small file m
+  pub desk-26-exactly : (deskResult file given m .answer .number ≡ 126) ↔ TooSmall file m
   unfolding deskResult
-  desk-26-exactly = (26-small (λ t. lawfulQuestion t given) file m (λ t. lawful-other t given), small-26 (λ t. lawfulQuestion t given) file m)
+  desk-26-exactly =
+      (26-small (λ t. lawfulQuestion t given) file m (λ t. lawful-other t given), λ s. ap (λ r. r .answer .number) (small-26 (λ t. lawfulQuestion t given) file m s))
+
+  -- where the reader refuses, the desk is told the same
+  pub desk-refuses-as-reader : 100 ≤ readResult file m .answer .number → deskResult file given m .answer ≡ readResult file m .answer
+  unfolding deskResult readResult
+  desk-refuses-as-reader = refused-alike (λ t. lawfulQuestion t given) examination (λ t. refused-first t given) (reading file) m
 
   pub desk-refused-untouched : OfFile (deskResult file given m .answer .number) → Untouched m (deskResult file given m)
   unfolding deskResult

@@ -16,8 +16,9 @@ use Rattle.tables.specs.Applies.{NoneApplies, none, nor, Gives, here}
 use Rattle.tables.specs.Examination.{tests, Fine}
 use Rattle.tables.proofs.Laws.{none-fine, gives-first, first-gives, gives-refused, gives-before, after-none, small-none, fine-none, none-is-fine}
 use Rattle.files.specs.File.{fileOf}
-use Rattle.files.specs.Rooms.{tooShort, over}
+use Rattle.files.specs.Rooms.{tooShort, covering}
 use Rattle.files.specs.Writer.{writeTests, writeAnswer, fileOr, writtenRoom}
+use Rattle.files.proofs.Numbers.{some-test, after-examination}
 
 -- what the writer says, and what it leaves
 pub record Left (t : Tables) (room : List ℕ) (answer : Told) (after : List ℕ) : Type 0 where
@@ -44,7 +45,7 @@ module _ (t : Tables) (room : List ℕ) where
     write-small e = refusing (refused 26 0) (omega arith) (last ∙ gives-first (once 26 (tooShort room (fileOf t)) ∷ []) _ (refused 26 0) (here 0 (omega arith) e (λ j l. absurd (omega arith))))
 
     -- the file
-    pub write-whole : tooShort room (fileOf t) ≡ false → Left t room (told 0 (length (fileOf t) ∷ [])) (over (fileOf t) room)
+    pub write-whole : tooShort room (fileOf t) ≡ false → Left t room (told 0 (length (fileOf t) ∷ [])) (covering (fileOf t) room)
     unfolding writtenRoom
     write-whole e =
         let said : writeAnswer t room ≡ told 0 (length (fileOf t) ∷ []) = last ∙ none-fine (once 26 (tooShort room (fileOf t)) ∷ []) _ (nor (λ k l. e) none) in
@@ -55,23 +56,43 @@ module _ (t : Tables) (room : List ℕ) where
   write-refused l = refusing (writeAnswer t room) l refl .leaves
 
   -- number 0 is said of tables that pass the examination, where the memory is enough; what stands first is then their file
-  pub record Whole : Type 0 where
+  pub record FileWritten : Type 0 where
     pub fine : Fine t
     pub enough : tooShort room (fileOf t) ≡ false
-    pub left : Left t room (told 0 (length (fileOf t) ∷ [])) (over (fileOf t) room)
+    pub left : Left t room (told 0 (length (fileOf t) ∷ [])) (covering (fileOf t) room)
     pub first : take (length (fileOf t)) (writtenRoom t room) ≡ fileOf t
 
-  pub zero-written : writeAnswer t room .number ≡ 0 → Whole
+  pub zero-written : writeAnswer t room .number ≡ 0 → FileWritten
   zero-written e = ⊎-elim fine refused-first (first-gives (tests t) (told 0 []))
     where
-      refused-first : Gives (tests t) (firstOf (tests t) (told 0 [])) → Whole
+      refused-first : Gives (tests t) (firstOf (tests t) (told 0 [])) → FileWritten
       refused-first g = absurd (omega (arith, e, gives-refused (tests t) _ g, ap (λ w. w .number) (write-examined _ g .says)))
 
-      enough : Fine t → (b : Bool) → tooShort room (fileOf t) ≡ b → Whole
+      enough : Fine t → (b : Bool) → tooShort room (fileOf t) ≡ b → FileWritten
       enough f true q = absurd (omega (arith, e, ap (λ w. w .number) (write-small f q .says)))
       enough f false q =
           let w = write-whole f q in
           record { fine = f; enough = q; left = w; first = ap (take (length (fileOf t))) (w .leaves) ∙ take-at (fileOf t) (drop (length (fileOf t)) room) (length (fileOf t)) refl }
 
-      fine : NoneApplies (tests t) → Whole
+      fine : NoneApplies (tests t) → FileWritten
+      fine n = enough (none-is-fine t n) (tooShort room (fileOf t)) refl
+
+  -- 26 is said of tables that pass the examination, where the memory is shorter than their file
+  pub record RoomShort : Type 0 where
+    pub fine : Fine t
+    pub short : tooShort room (fileOf t) ≡ true
+
+  pub 26-short : writeAnswer t room .number ≡ 126 → RoomShort
+  26-short e = ⊎-elim fine refused-first (first-gives (tests t) (told 0 []))
+    where
+      refused-first : Gives (tests t) (firstOf (tests t) (told 0 [])) → RoomShort
+      refused-first g =
+          let said = ap (λ w. w .number) (write-examined _ g .says) in
+          absurd (omega (arith, some-test (after-examination t g (omega (arith, e, said)))))
+
+      enough : Fine t → (b : Bool) → tooShort room (fileOf t) ≡ b → RoomShort
+      enough f true q = record { fine = f; short = q }
+      enough f false q = absurd (omega (arith, e, ap (λ w. w .number) (write-whole f q .says)))
+
+      fine : NoneApplies (tests t) → RoomShort
       fine n = enough (none-is-fine t n) (tooShort room (fileOf t)) refl

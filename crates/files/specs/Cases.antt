@@ -2,11 +2,17 @@
 use mathlib.Core.Path.{_≡_, refl}
 use mathlib.Core.List.{List, [], _∷_, _++_, map}
 use Prim.Native.Nat.{ℕ}
-use Rattle.problem.specs.Lowest.{sum}
+use Rattle.problem.specs.Lowest.{lowestFrom, lowest, sum}
 use Rattle.problem.specs.Tables.{Tables, tables, start}
+use Rattle.problem.specs.Replies.{Told, told, refused}
+use Rattle.tables.specs.Tests.{firstOf}
+use Rattle.tables.specs.Examination.{wayBad, badWord, pairOfWord, examination}
+use Rattle.questions.specs.Questions.{broken, lawfulQuestion}
 use Rattle.files.specs.Bytes.{bytesOf, number, wordsOf, joined}
 use Rattle.files.specs.File.{SZ, PR, ED, sizesRecord, pairRecord, endRecord, fileOf}
 use Rattle.files.specs.Reading.{Reading, fault, read, sizesRest, wordsRest, pairRest, endRest, same, afterMark, readRest, readRecords, readFrom, reading, nothing}
+use Rattle.files.specs.Rooms.{Rooms, rooms}
+use Rattle.files.specs.Reader.{Result, readResult, deskResult}
 
 -- what is written, and what is read. (To unfold these is to unfold all that their lines name)
 unfoldable pub written : Tables → List ℕ
@@ -100,3 +106,69 @@ fileCases =
 pub files-mean : map (λ c. means (c .file)) fileCases ≡ map (λ c. c .expected) fileCases
 unfolding means fileCases
 files-mean = refl
+
+-- ---- a file read into lent memory, and all that is to come of it
+pub record ReadCase : Type 0 where
+  pub file : List ℕ
+  pub lent : Rooms
+  pub left : Result
+
+abbrev pub readCase : List ℕ → Rooms → Result → ReadCase
+readCase file lent left = record { file = file; lent = lent; left = left }
+
+abbrev pub leaves : (answer : Told) (boats pairBytes rowWords : ℕ) → Rooms → Result
+leaves answer boats pairBytes rowWords m = record { answer = answer; boats = boats; pairBytes = pairBytes; rowWords = rowWords; rooms = m }
+
+-- a boat without a slot: the file is read, and 3 applies to its tables
+abbrev pub slotless : List ℕ
+slotless = SZ ++ (1 ∷ 0 ∷ endOf 0 0)
+
+unfoldable pub readCases : List ReadCase
+readCases =
+    -- just enough memory, and more of it
+    readCase twoFile (rooms (7 ∷ 7 ∷ []) (7 ∷ 7 ∷ []) (7 ∷ [])) (leaves (told 0 (2 ∷ 1 ∷ 1 ∷ [])) 2 2 1 (rooms (1 ∷ 1 ∷ []) (0 ∷ 1 ∷ []) (1 ∷ [])))
+    ∷ readCase twoFile (rooms (7 ∷ 8 ∷ 9 ∷ []) (7 ∷ 8 ∷ 9 ∷ []) (7 ∷ 8 ∷ [])) (leaves (told 0 (2 ∷ 1 ∷ 1 ∷ [])) 2 2 1 (rooms (1 ∷ 1 ∷ 9 ∷ []) (0 ∷ 1 ∷ 9 ∷ []) (1 ∷ 8 ∷ [])))
+    -- 26: one part too short, however long the others are
+    ∷ readCase twoFile (rooms (7 ∷ []) (7 ∷ 7 ∷ 7 ∷ []) (7 ∷ 7 ∷ [])) (leaves (refused 26 0) 0 0 0 (rooms (7 ∷ []) (7 ∷ 7 ∷ 7 ∷ []) (7 ∷ 7 ∷ [])))
+    ∷ readCase twoFile (rooms (7 ∷ 7 ∷ 7 ∷ []) (7 ∷ []) (7 ∷ 7 ∷ [])) (leaves (refused 26 0) 0 0 0 (rooms (7 ∷ 7 ∷ 7 ∷ []) (7 ∷ []) (7 ∷ 7 ∷ [])))
+    ∷ readCase twoFile (rooms (7 ∷ 7 ∷ 7 ∷ []) (7 ∷ 7 ∷ 7 ∷ []) []) (leaves (refused 26 0) 0 0 0 (rooms (7 ∷ 7 ∷ 7 ∷ []) (7 ∷ 7 ∷ 7 ∷ []) []))
+    -- 26 before the examination; then its refusal, and the tables stand
+    ∷ readCase slotless (rooms [] [] []) (leaves (refused 26 0) 0 0 0 (rooms [] [] []))
+    ∷ readCase slotless (rooms (7 ∷ []) [] []) (leaves (refused 3 0) 1 0 0 (rooms (0 ∷ []) [] []))
+    -- a fault before 26
+    ∷ readCase (twoFile ++ (0 ∷ [])) (rooms (7 ∷ []) [] []) (leaves (refused 25 21) 0 0 0 (rooms (7 ∷ []) [] []))
+    ∷ []
+
+pub files-read : map (λ c. readResult (c .file) (c .lent)) readCases ≡ map (λ c. c .left) readCases
+unfolding readResult means readCases examination firstOf lowest lowestFrom start sum wayBad badWord pairOfWord
+files-read = refl
+
+-- ---- the desk's question of a file and a plan, with memory enough for two boats, one pair and one row, and its answer
+pub record DeskCase : Type 0 where
+  pub file : List ℕ
+  pub given : List ℕ
+  pub answer : Told
+
+abbrev pub deskCase : List ℕ → List ℕ → Told → DeskCase
+deskCase file given answer = record { file = file; given = given; answer = answer }
+
+abbrev pub enough : Rooms
+enough = rooms (7 ∷ 7 ∷ []) (7 ∷ 7 ∷ []) (7 ∷ [])
+
+unfoldable pub deskCases : List DeskCase
+deskCases =
+    -- yes; no, where the pair's row is empty
+    deskCase twoFile (0 ∷ 0 ∷ []) (told 0 [])
+    ∷ deskCase (sizes2 ++ (pairOf 0 1 0 ++ endOf 1 0)) (0 ∷ 0 ∷ []) (told 1 [])
+    -- the plan's refusals: its length, then its slots
+    ∷ deskCase twoFile (0 ∷ []) (refused 10 0)
+    ∷ deskCase twoFile (0 ∷ 1 ∷ []) (refused 11 1)
+    -- the file's, and the examination's, before the plan's
+    ∷ deskCase (0x58 ∷ []) [] (refused 22 1)
+    ∷ deskCase (SZ ++ (3 ∷ 1 ∷ 1 ∷ 1 ∷ endOf 0 0)) [] (refused 26 0)
+    ∷ deskCase slotless [] (refused 3 0)
+    ∷ []
+
+pub desk-asked : map (λ c. deskResult (c .file) (c .given) enough .answer) deskCases ≡ map (λ c. c .answer) deskCases
+unfolding deskResult means deskCases lawfulQuestion broken examination firstOf lowest lowestFrom start sum wayBad badWord pairOfWord
+desk-asked = refl

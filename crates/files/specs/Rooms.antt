@@ -24,8 +24,8 @@ abbrev pub tooSmall : Rooms → Tables → Bool
 tooSmall m t = tooShort (m .sizes) (t .sizes) || (tooShort (m .pairs) (t .pairs) || tooShort (m .rows) (t .rows))
 
 -- what is written stands first, and the rest of the part is as it was
-abbrev pub over : (content room : List ℕ) → List ℕ
-over content room = content ++ drop (length content) room
+abbrev pub covering : (content room : List ℕ) → List ℕ
+covering content room = content ++ drop (length content) room
 
 abbrev pub holding : Tables → Rooms → Rooms
-holding t m = rooms (over (t .sizes) (m .sizes)) (over (t .pairs) (m .pairs)) (over (t .rows) (m .rows))
+holding t m = rooms (covering (t .sizes) (m .sizes)) (covering (t .pairs) (m .pairs)) (covering (t .rows) (m .rows))

@@ -9,7 +9,7 @@ use Rattle.problem.specs.Replies.{Told, told}
 use Rattle.tables.specs.Tests.{Test, once, firstOf}
 use Rattle.tables.specs.Examination.{tests}
 use Rattle.files.specs.File.{fileOf}
-use Rattle.files.specs.Rooms.{tooShort, over}
+use Rattle.files.specs.Rooms.{tooShort, covering}
 
 -- the writer begins with the examination; last 26, lent memory too small for the file
 abbrev pub writeTests : Tables → (room : List ℕ) → List Test
@@ -21,7 +21,7 @@ writeAnswer t room = firstOf (writeTests t room) (told 0 (length (fileOf t) ∷ 
 
 -- the lent memory afterwards: the file, and the bytes after it as they were; as it was where the writer refuses
 abbrev pub fileOr : (written : Bool) → Tables → List ℕ → List ℕ
-fileOr true t room = over (fileOf t) room
+fileOr true t room = covering (fileOf t) room
 fileOr false t room = room
 
 unfoldable pub writtenRoom : Tables → (room : List ℕ) → List ℕ

@@ -12,13 +12,12 @@ use lib.ListN.{length, set}
 use lib.Seq.{getD-set-same, getD-set-other}
 use Rattle.problem.specs.Tables.{Tables, boats, size, listed, lower, higher, place, isListed, start}
 use Rattle.problem.specs.Sane.{Sane}
-use Rattle.problem.proofs.Starts.{start-zero, start-next}
+use Rattle.problem.proofs.Starts.{start-zero, start-next, start-few}
 use Rattle.problem.proofs.Places.{place-at, place-pair}
 use Rattle.words.specs.Places.{tri}
 use Rattle.words.specs.Layout.{word, ChangedOnly, Zero, indexOf, Indexed}
 use Rattle.words.proofs.Triangle.{tri-small, tri-once}
 use Rattle.words.proofs.ChangedOnly.{only-refl, only-trans, only-set}
-use Rattle.words.proofs.Firsts.{start-few}
 
 -- the word of the pair at place p, once the pairs below k are in the index
 abbrev indexedAt : Tables → (k p : ℕ) → ℕ

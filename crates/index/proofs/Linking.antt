@@ -17,7 +17,7 @@ use Rattle.words.specs.Links.{linkOf, Links}
 use Rattle.words.specs.Links.Links.{none}
 use Rattle.words.proofs.ChangedOnly.{only-refl, only-trans, only-set, only-widen}
 use Rattle.words.proofs.Indexed.{index-unlisted, index-listed, unlisted-index, listed-index}
-use Rattle.words.proofs.Firsts.{start-few}
+use Rattle.problem.proofs.Starts.{start-few}
 use Rattle.words.proofs.Links.{links-bounds, links-stay, links-past, links-link}
 
 -- ---- the link that an index word gives

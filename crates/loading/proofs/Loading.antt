@@ -14,7 +14,7 @@ use Rattle.tables.proofs.Bools.{or-here, neither-or}
 use Rattle.files.specs.Bytes.{Below}
 use Rattle.files.specs.Reading.{Reading, fault, read, reading}
 use Rattle.files.specs.Limits.{Whole}
-use Rattle.files.specs.Rooms.{Rooms, rooms, tooSmall, over}
+use Rattle.files.specs.Rooms.{Rooms, rooms, tooSmall, covering}
 use Rattle.files.specs.Reader.{Result, refusedResult, unlessSmall, resultOf}
 use Rattle.files.proofs.OneFile.{one-file}
 use Rattle.scanning.specs.Replies.{readingTold}
@@ -97,7 +97,7 @@ module _ (file sizes₀ pairs₀ rows₀ : List ℕ) (small : Below 256 file) (b
         let enough : tooSmall memory tables ≡ false =
         neither-or _ _ (le-ltb (length sizes₀) (length (tables .sizes)) (omega (arith, lengths .sizes)))
         (neither-or _ _ (le-ltb (length pairs₀) (length (tables .pairs)) (omega (arith, lengths .listedAre, lengths .whole .twoBytes))) (le-ltb (length rows₀) (length (tables .rows)) (omega (arith, lengths .rows)))) in
-        let written : sizes ≡ over (tables .sizes) sizes₀ =
+        let written : sizes ≡ covering (tables .sizes) sizes₀ =
         s ∙ ap (λ n. take n (drop 3 file) ++ drop n sizes₀) (lengths .sizes) ∙ ap (λ l. l ++ drop (length (tables .sizes)) sizes₀) (sym (started file tables (lengths .isRead) .sizesAre)) in
         let pairBytes : 2 * pairs ≡ length (tables .pairs) = omega (arith, lengths .listedAre, lengths .whole .twoBytes) in
         (λ i. record {

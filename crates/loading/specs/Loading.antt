@@ -6,7 +6,7 @@ use lib.ListN.{length}
 use Rattle.problem.specs.Tables.{Tables}
 use Rattle.problem.specs.Replies.{Told, told, refusalNumber, refusalPlace}
 use Rattle.files.specs.Reading.{read, reading}
-use Rattle.files.specs.Rooms.{Rooms, rooms, over}
+use Rattle.files.specs.Rooms.{Rooms, rooms, covering}
 use Rattle.files.specs.Reader.{Result, refusedResult, resultOf}
 use Rattle.scanning.specs.Scanning.{fromSizes}
 use Rattle.scanning.specs.declared.Contents.{Contents}
@@ -22,8 +22,8 @@ pub record Fitting (file : List ℕ) (boats pairRoom rowRoom : ℕ) : Type 0 whe
 
 -- the tables' pairs and rows are written
 pub record Filled (file : List ℕ) (boats : ℕ) (pairs₀ rows₀ pairs rows : List ℕ) : Type 0 where
-  pub pairsWritten : (t : Tables) → fromSizes file boats ≡ read t → pairs ≡ over (t .pairs) pairs₀
-  pub rowsWritten : (t : Tables) → fromSizes file boats ≡ read t → rows ≡ over (t .rows) rows₀
+  pub pairsWritten : (t : Tables) → fromSizes file boats ≡ read t → pairs ≡ covering (t .pairs) pairs₀
+  pub rowsWritten : (t : Tables) → fromSizes file boats ≡ read t → rows ≡ covering (t .rows) rows₀
 
 -- nothing is asked of the tables yet
 abbrev pub unasked : Tables → Told

@@ -54,7 +54,7 @@ fn fill_pairs(file: &[u8], boats: usize, pairs: &mut [u8], rows: &mut [u64])
     let mut k: usize = 0;
     let mut word: usize = 0;
     loop {
-        if !scanning::is_mark(file, at, 0x50, 0x52) {
+        if !scanning::is_mark(file, at, b'P', b'R') {
             return;
         }
         let lower = file[at + 2];

@@ -2,12 +2,14 @@
 use mathlib.Core.Path.{_≡_, refl}
 use mathlib.Core.Logic.{_⊎_, inl, inr}
 use mathlib.Core.List.{List}
-use Prim.Native.Nat.{ℕ, zero, suc, _+_, _≤_, _<_}
+use Prim.Native.Nat.{ℕ, zero, suc, _+_, _*_, _≤_, _<_}
 use native.Mathlib.Nat.{eq-or-lt-of-le, le-of-suc-le-suc, le-refl}
 use native.Mathlib.Numerals.{add-one}
 use native.Mathlib.Omega.{arith}
 use Rattle.problem.specs.Lowest.{sum}
-use Rattle.problem.specs.Tables.{size, listed, lower, start}
+use Rattle.problem.specs.Tables.{Tables, size, listed, lower, start}
+use Rattle.problem.specs.Sane.{Sane}
+use Rattle.problem.proofs.Places.{lower-named}
 
 module _ (sizes pairs : List ℕ) where
   pub start-zero : start sizes pairs 0 ≡ 0
@@ -32,3 +34,9 @@ module _ (sizes pairs : List ℕ) where
   -- the rows of a listed pair end where those of the last one do, or before
   pub start-within : (k : ℕ) → k < listed pairs → start sizes pairs k + size sizes (lower pairs k) ≤ start sizes pairs (listed pairs)
   start-within k l = omega (arith, start-suc k, start-mono (suc k) (listed pairs) l)
+
+-- at most 64 words a pair
+pub start-few : (t : Tables) → Sane t → (k : ℕ) → k ≤ listed (t .pairs) → start (t .sizes) (t .pairs) k ≤ 64 * k
+start-few t s zero le = omega (arith, start-zero (t .sizes) (t .pairs))
+start-few t s (suc k) le =
+    omega (arith, start-suc (t .sizes) (t .pairs) k, s .fewSlots (lower (t .pairs) k) (lower-named t s k le), start-few t s k (omega arith))

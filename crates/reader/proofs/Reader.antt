@@ -10,7 +10,7 @@ use Rattle.problem.specs.Tables.{Tables, tables, boats as boatsOf}
 use Rattle.problem.specs.Replies.{Told, told, refusalNumber, refusalPlace}
 use Rattle.problem.specs.declared.Refusal.{Refusal}
 use Rattle.files.specs.Reading.{Reading, fault, read}
-use Rattle.files.specs.Rooms.{Rooms, tooSmall, over, holding}
+use Rattle.files.specs.Rooms.{Rooms, tooSmall, covering, holding}
 use Rattle.files.specs.Reader.{Result, refusedResult, unlessSmall, resultOf}
 use Rattle.loading.specs.Loading.{unasked}
 
@@ -57,10 +57,10 @@ standing (read t) m₀ boats pairBytes rowWords m e = by (tooSmall m₀ t) refl 
     }
 
 -- what stands first is what was written
-first-is : (content room part : List ℕ) (k : ℕ) → k ≡ length content → part ≡ over content room → take k part ≡ content
+first-is : (content room part : List ℕ) (k : ℕ) → k ≡ length content → part ≡ covering content room → take k part ≡ content
 first-is content room part k e q = ap (take k) q ∙ take-at content (drop (length content) room) k (sym e)
 
-within : (content room part : List ℕ) (k : ℕ) → k ≡ length content → part ≡ over content room → k ≤ length part
+within : (content room part : List ℕ) (k : ℕ) → k ≡ length content → part ≡ covering content room → k ≤ length part
 within content room part k e q = omega (arith, ap length q, length-append content (drop (length content) room))
 
 module _ (r : Reading) (m₀ : Rooms) (boats pairBytes rowWords : ℕ) (m : Rooms) (s : Standing r m₀ boats pairBytes rowWords m) where

@@ -35,6 +35,6 @@ Meets file boats at pairs End = (words : ℕ) (t : Tables) → SoFar file boats 
 Meets file boats at pairs (Refused why) =
     (words : ℕ) (t : Tables) → SoFar file boats pairs words t → readingTold (readFrom at pairsDue t (drop at file)) ≡ refusalTold why
 
--- ---- the second pass, from the first mark after SZ on
+-- ---- what is read from the first mark after SZ on
 abbrev pub fromSizes : List ℕ → (boats : ℕ) → Reading
 fromSizes file boats = readFrom (3 + boats) pairsDue (sized (take boats (drop 3 file))) (drop (3 + boats) file)

@@ -31,11 +31,11 @@ pub fn byte(file: &[u8], at: usize) -> usize
 }
 
 // The two bytes from a place on are this mark.
-pub fn is_mark(file: &[u8], at: usize, first: usize, second: usize) -> bool
+pub fn is_mark(file: &[u8], at: usize, first: u8, second: u8) -> bool
     requires { ⌜ at + 2 ≤ length (now file) ⌝ }
     ensures { λ r. ⌜ r ≡ same (take 2 (drop at (now (file .entry)))) (first ∷ second ∷ []) ⌝ }
 {
-    byte(file, at) == first && byte(file, at + 1) == second
+    file[at] == first && file[at + 1] == second
 }
 
 // One record after the SZ, whose first byte after the mark is the third of the file.
@@ -48,7 +48,7 @@ fn meet(file: &[u8], boats: usize, at: usize, pairs: usize) -> Met
     if left < 2 {
         return Met::Refused(Refusal::FileEnd(file.len()));
     }
-    if is_mark(file, at, 0x50, 0x52) {
+    if is_mark(file, at, b'P', b'R') {
         if left < 3 {
             return Met::Refused(Refusal::FileEnd(file.len()));
         }
@@ -62,7 +62,7 @@ fn meet(file: &[u8], boats: usize, at: usize, pairs: usize) -> Met
         }
         return Met::Pair(slots);
     }
-    if is_mark(file, at, 0x45, 0x44) {
+    if is_mark(file, at, b'E', b'D') {
         if left < 4 {
             return Met::Refused(Refusal::FileEnd(file.len()));
         }
@@ -106,7 +106,7 @@ pub fn scan(file: &[u8]) -> Contents
     if file.len() < 2 {
         return Contents::Refused(Refusal::FileEnd(file.len()));
     }
-    if !is_mark(file, 0, 0x53, 0x5A) {
+    if !is_mark(file, 0, b'S', b'Z') {
         return Contents::Refused(Refusal::Mark(0));
     }
     if file.len() < 3 {

@@ -9,11 +9,9 @@ use native.Mathlib.Numerals.{add-one}
 use native.Mathlib.Omega.{arith}
 use borrow.Author.Tests.{le-leb, lt-leb, leb-true, leb-false}
 use lib.Dec.{leb}
-use Rattle.problem.specs.Tables.{Tables, size, listed, lower, start}
+use Rattle.problem.specs.Tables.{size, listed, lower, start}
 use Rattle.problem.specs.Rising.{Rising}
-use Rattle.problem.specs.Sane.{Sane}
 use Rattle.problem.proofs.Lowest.{lowest-le, lowest-fails, lowest-passes, lowest-here, lowest-none, lowest-before}
-use Rattle.problem.proofs.Places.{lower-named}
 use Rattle.problem.proofs.Starts.{start-zero, start-suc}
 use Rattle.words.specs.Layout.{firstPair}
 
@@ -89,9 +87,3 @@ module _ (sizes pairs : List ℕ) where
       let m = firstPair pairs (i + 1) - k in
       let e : k + m ≡ firstPair pairs (i + 1) = omega arith in
       ap (start sizes pairs) (sym e) ∙ start-run i k m (λ j lo hi. first-same pairs rising i j lo (rw (← add-one i) (omega arith)))
-
--- at most 64 words a pair
-pub start-few : (t : Tables) → Sane t → (k : ℕ) → k ≤ listed (t .pairs) → start (t .sizes) (t .pairs) k ≤ 64 * k
-start-few t s zero le = omega (arith, start-zero (t .sizes) (t .pairs))
-start-few t s (suc k) le =
-    omega (arith, start-suc (t .sizes) (t .pairs) k, s .fewSlots (lower (t .pairs) k) (lower-named t s k le), start-few t s k (omega arith))

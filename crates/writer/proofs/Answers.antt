@@ -14,10 +14,10 @@ use Rattle.tables.proofs.Fine.{sane-fine}
 use Rattle.files.specs.Bytes.{bytesOf, joined}
 use Rattle.files.specs.File.{sizesRecord, pairRecord, endRecord, fileOf}
 use Rattle.files.specs.Writer.{writeAnswer, writtenRoom}
+use Rattle.files.proofs.Lengths.{pairs-long, file-long}
 use Rattle.files.proofs.Writer.{write-examined, write-small, write-whole}
 use Rattle.writer.specs.Puts.{Puts}
 use Rattle.writer.proofs.Puts.{puts-then, puts-whole}
-use Rattle.writer.proofs.Contents.{pairs-long}
 
 -- the examination refuses the tables
 pub examined-refused : (t : Tables) (room : List ℕ) {w : Told} → w ≡ examination t → 100 ≤ w .number → (w ≡ writeAnswer t room) × (room ≡ writtenRoom t room)
@@ -28,17 +28,6 @@ examined-refused t room {w} e l =
 
 -- ---- the tables are sane
 module _ (t : Tables) (sane : Sane t) where
-  pub file-long : length (fileOf t) ≡ 3 + boats t + (4 * listed (t .pairs) + 8 * length (t .rows)) + 4
-  unfolding fileOf sizesRecord endRecord bytesOf
-  file-long =
-      omega (
-        arith,
-        length-append (sizesRecord t) (joined (listed (t .pairs)) (pairRecord t) ++ endRecord t),
-        length-append (joined (listed (t .pairs)) (pairRecord t)) (endRecord t),
-        pairs-long t (listed (t .pairs)),
-        sane .rowWords,
-      )
-
   -- so few pairs are counted by two bytes
   count-bytes : bytesOf 2 (listed (t .pairs)) ≡ listed (t .pairs) % 256 ∷ listed (t .pairs) / 256 ∷ []
   unfolding bytesOf
@@ -67,4 +56,4 @@ module _ (t : Tables) (sane : Sane t) where
         (puts-then q (omega (arith, pairs-long t (listed (t .pairs)), sane .rowWords))
         (ap (λ bytes. joined (listed (t .pairs)) (pairRecord t) ++ (0x45 ∷ 0x44 ∷ bytes)) (sym count-bytes)) r) in
         let x = write-whole t room (sane-fine t sane) (le-ltb (length room) (length (fileOf t)) (omega (arith, whole .inside))) in
-        (ap (λ n. told 0 (n ∷ [])) (omega (arith, file-long)) ∙ sym (x .says), puts-whole whole ∙ sym (x .leaves))
+        (ap (λ n. told 0 (n ∷ [])) (omega (arith, file-long t sane)) ∙ sym (x .says), puts-whole whole ∙ sym (x .leaves))

@@ -1,3 +1,4 @@
+pub mod Replies
 pub mod Puts
 pub mod Contents
 pub mod Pairs

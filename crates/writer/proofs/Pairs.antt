@@ -11,7 +11,8 @@ use Rattle.files.specs.Bytes.{joined}
 use Rattle.files.specs.File.{pairRecord}
 use Rattle.writer.specs.Puts.{Puts}
 use Rattle.writer.proofs.Puts.{puts-stored, puts-length, puts-then}
-use Rattle.writer.proofs.Contents.{joined-more, wordBytes, pair-parts, pairs-long}
+use Rattle.files.proofs.Lengths.{wordBytes, pair-parts, pairs-long}
+use Rattle.writer.proofs.Contents.{joined-more}
 
 -- k PRs are there, the next one's place is `at`, and its rows begin at `word`
 pub record AtPair (t : Tables) (first : ℕ) (file₀ file : List ℕ) (at word k : ℕ) : Type 0 where

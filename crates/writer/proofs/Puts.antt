@@ -6,7 +6,7 @@ use native.Mathlib.Nat.{zero-add}
 use native.Mathlib.Omega.{arith}
 use lib.ListN.{length, take, drop, length-append, length-drop}
 use lib.Seq.{length-take-le, take-at, drop-at, drop-drop, sets, sets-eq}
-use Rattle.files.specs.Rooms.{over}
+use Rattle.files.specs.Rooms.{covering}
 use Rattle.writer.specs.Puts.{Puts}
 
 -- entries stored one after another
@@ -56,5 +56,5 @@ module _ {content : List ℕ} {at : ℕ} {before after : List ℕ} (p : Puts con
         }
 
 -- a content at the beginning
-pub puts-whole : {content room after : List ℕ} → Puts content 0 room after → after ≡ over content room
+pub puts-whole : {content room after : List ℕ} → Puts content 0 room after → after ≡ covering content room
 puts-whole {content} {room} p = p .there ∙ ap (λ n. content ++ drop n room) (zero-add (length content))

@@ -67,8 +67,8 @@ fn put_sizes(sizes: &[u8], file: &mut [u8])
     requires { ⌜ (length (now sizes) < 256) × (3 + length (now sizes) ≤ length (now file)) ⌝ }
     ensures { λ _. ⌜ Puts (0x53 ∷ 0x5A ∷ length (now (sizes .entry)) ∷ now (sizes .entry)) 0 (now (file .entry)) (now (file .exit)) ⌝ }
 {
-    file[0] = 0x53;
-    file[1] = 0x5A;
+    file[0] = b'S';
+    file[1] = b'Z';
     file[2] = sizes.len() as u8;
     let mut i: usize = 0;
     while i < sizes.len() {
@@ -91,7 +91,7 @@ fn put_pairs(sizes: &[u8], pairs: &[u8], rows: &[u64], file: &mut [u8], first: u
     let mut k: usize = 0;
     while k < count {
         let slots = looks::size_of(sizes, looks::lower_of(pairs, k));
-        put_four(file, at, 0x50, 0x52, pairs[2 * k], pairs[2 * k + 1]);
+        put_four(file, at, b'P', b'R', pairs[2 * k], pairs[2 * k + 1]);
         put_words(rows, start, slots, file, at + 4);
         at += 4 + 8 * slots;
         start += slots;
@@ -114,14 +114,9 @@ fn write_fine(sizes: &[u8], pairs: &[u8], rows: &[u64], file: &mut [u8]) -> Writ
     }
     put_sizes(sizes, file);
     put_pairs(sizes, pairs, rows, file, front);
-    put_four(
-        file,
-        last,
-        0x45,
-        0x44,
-        (count % 256) as u8,
-        (count / 256) as u8,
-    );
+    let low = (count % 256) as u8;
+    let high = (count / 256) as u8;
+    put_four(file, last, b'E', b'D', low, high);
     Written::Done(last + 4)
 }
 

@@ -95,9 +95,7 @@ add-result-3 c = search needs
 returns : tie.Need-returns
 returns c =
     let a = c .before .before .before .before .before .before .before .before .before .args in
-    omega (
-      arith,
-      word-number (a .file .now) (a .at) (omega arith),
+    rw (
       c .before .before .before .before .before .before .before .byte-of-word .ensures .0,
       c .before .before .before .before .before .before .byte-of-word2 .ensures .0,
       c .before .before .before .before .before .byte-of-word3 .ensures .0,
@@ -106,7 +104,7 @@ returns c =
       c .before .before .byte-of-word6 .ensures .0,
       c .before .byte-of-word7 .ensures .0,
       c .byte-of-word8 .ensures .0,
-    )
+    ) (word-number (a .file .now) (a .at) (omega arith))
 
 pub word-at-spec : {M : Type 1} → statement M
 word-at-spec =

@@ -50,7 +50,9 @@ mul-judged : tie.Need-mul-judged
 mul-judged c = omega (arith, there (c .before .before .before .before) .1)
 
 judged-requires : tie.Need-judged-requires
-judged-requires c κs = there (c .before .before .before .before .before)
+judged-requires c κs =
+    let q = there (c .before .before .before .before .before) in
+    (omega (arith, q .0), omega (arith, q .1), omega (arith, q .2))
 
 same-length : tie.Need-same-length
 same-length c = search needs

@@ -50,7 +50,9 @@ mul-pair-bytes : tie.Need-mul-pair-bytes
 mul-pair-bytes c = omega (arith, there (c .before .before) .1)
 
 examined-requires : tie.Need-examined-requires
-examined-requires c κs = there (c .before .before .before .before .before)
+examined-requires c κs =
+    let q = there (c .before .before .before .before .before) in
+    (omega (arith, q .0), omega (arith, q .1), omega (arith, q .2))
 
 same-length : tie.Need-same-length
 same-length c = search needs

@@ -50,7 +50,7 @@ returns-3 : tie.Need-returns-3
 returns-3 c words t s =
     let a = c .before .before .before .before .before .before .before .args in
     no-boat (a .file .now) (a .at) (a .boats) (omega arith) (omega arith) (omega arith) (is-pr (c .before .before .before)) (omega arith) (a .pairs) words t s
-    (c .before .byte .result) (c .before .byte .ensures .0) (c .if4 .taken)
+    (c .before .byte .result) (c .before .byte .ensures .0) (omega arith)
 
 add-byte-2 : tie.Need-add-byte-2
 add-byte-2 c = search needs

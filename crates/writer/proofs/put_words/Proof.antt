@@ -7,7 +7,8 @@ use native.Mathlib.Omega.{arith}
 use Rattle.files.specs.Bytes.{joined}
 use Rattle.writer.specs.Puts.{Puts}
 use Rattle.writer.proofs.Puts.{puts-stored, puts-length, puts-then}
-use Rattle.writer.proofs.Contents.{joined-more, wordBytes, words-long}
+use Rattle.files.proofs.Lengths.{wordBytes, words-long}
+use Rattle.writer.proofs.Contents.{joined-more}
 use Rattle.writer.proofs.put_words.Statement.{statement}
 use Rattle.writer.proofs.put_words.Tie as tie
 

@@ -3,7 +3,8 @@ use mathlib.Core.Path.{refl}
 use borrow.Author.Needs.{needs}
 use native.Mathlib.Omega.{arith}
 use Rattle.problem.specs.Tables.{Tables, tables}
-use Rattle.writer.proofs.Answers.{file-long, room-refused, file-answered}
+use Rattle.files.proofs.Lengths.{file-long}
+use Rattle.writer.proofs.Answers.{room-refused, file-answered}
 use Rattle.writer.proofs.write_fine.Statement.{statement}
 use Rattle.writer.proofs.write_fine.Tie as tie
 
@@ -40,17 +41,17 @@ put-sizes-requires c κs = search needs
 put-pairs-requires : tie.Need-put-pairs-requires
 put-pairs-requires c κs = search needs
 
-cast-put-four : tie.Need-cast-put-four
-cast-put-four c = search needs
+cast-low : tie.Need-cast-low
+cast-low c = search needs
 
-cast-put-four-2 : tie.Need-cast-put-four-2
-cast-put-four-2 c = search needs
+cast-high : tie.Need-cast-high
+cast-high c = search needs
 
 put-four-requires : tie.Need-put-four-requires
 put-four-requires c κs = search needs
 
-add-t8 : tie.Need-add-t8
-add-t8 c = search needs
+add-t11 : tie.Need-add-t11
+add-t11 c = search needs
 
 same-length : tie.Need-same-length
 same-length c = search needs
@@ -76,9 +77,9 @@ write-fine-spec =
     returns
     put-sizes-requires
     put-pairs-requires
-    cast-put-four
-    cast-put-four-2
+    cast-low
+    cast-high
     put-four-requires
-    add-t8
+    add-t11
     same-length
     returns-2)
