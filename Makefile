@@ -174,9 +174,9 @@ $(filter %/calls_cpp,$(BUILT)): outside/calls/calls.cpp $(CALLS) $(LENT) $(HEADE
 $(filter %/library,$(BUILT)): $(wildcard outside/library/*.[ch]) $(LENT) $(HEADERS) $(LIBRARY)
 	$(compiled)
 
-outside: $(SECOND) $(BUILT) $(SHARED)
+outside: $(SECOND) $(BUILT) $(SHARED) $(RECORDS)
 	@cargo test --quiet --offline --release --manifest-path outside/second/Cargo.toml --target-dir target/second > target/second.log 2>&1 || { cat target/second.log; exit 1; }
-	@RT='$(RT)' bash outside/compare.sh $(SHARED) $(SEED) $(SECONDS)
+	@RT='$(RT)' bash outside/compare.sh $(SHARED) $(RECORDS) $(SEED) $(SECONDS)
 
 bench: $(BENCH)
 	@$(BENCH)

@@ -1,13 +1,14 @@
 #!/usr/bin/env bash
-# outside/compare.sh SHARED SEED SECONDS
+# outside/compare.sh SHARED RECORDS SEED SECONDS
 # All that is compared from outside the proofs; `make outside` builds what it needs and calls it.
 # Its last line says how many comparisons were made and how many differed.
 set -uo pipefail
 cd "$(dirname "$0")/.."
 
 shared=$1
-seed=$2
-seconds=$3
+records=$2
+seed=$3
+seconds=$4
 second=target/second/release/second
 built=target/outside
 checker="valgrind --quiet --error-exitcode=99 --leak-check=full"
@@ -156,6 +157,7 @@ for language in c cpp; do
     step "  under valgrind" $checker $built/calls_$language --exact
     step "  under the sanitizers" $built/sanitized/calls_$language --exact
 done
+step "files in words, by tools/records" bash outside/records.sh "$records"
 step "the library on every kind, under valgrind" fresh_of_every_kind $checker $built/library --exact
 step "the library on every kind, under the sanitizers" fresh_of_every_kind $built/sanitized/library --exact
 step "dist, and what the proofs build" bash outside/dist.sh
