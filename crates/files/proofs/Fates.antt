@@ -11,6 +11,7 @@ use lib.Seq.{length-take-le}
 use Rattle.problem.specs.Tables.{Tables, boats, listed}
 use Rattle.files.specs.Bytes.{Below, number}
 use Rattle.files.specs.Reading.{Reading, fault, read, Stage, sizesDue, pairsDue, Rest, next, refuse, over, end, refuseIf, sizesRest, wordsRest, pairRest, endRest, Kind, due, same, afterMark, cut, readRest, readFrom, widthOf}
+use Rattle.files.specs.Promises.{NotCut}
 use Rattle.files.proofs.Bytes.{below-join}
 use Rattle.files.proofs.Onward.{short, given, from-is}
 
@@ -62,10 +63,6 @@ mark-proper mark (kind ∷ kinds) t p = by (same mark (kind .mark)) (p .0) (mark
     by false p q = q
 
 -- ---- what may come of bytes that are read from the place `at` on
-abbrev pub NotCut : Reading → Type 0
-NotCut (fault number place after) = number ≡ 22 → ⊥
-NotCut (read t) = Unit {0}
-
 -- some first bytes of them are refused, whatever comes after these
 pub record Refused (reads : List ℕ → Reading) (at : ℕ) (bytes : List ℕ) : Type 0 where
   pub head : List ℕ

@@ -12,7 +12,8 @@ use lib.Seq.{take-at}
 use Rattle.problem.specs.Tables.{Tables}
 use Rattle.files.specs.Bytes.{Below}
 use Rattle.files.specs.Reading.{fault, read, sizesDue, nothing, reading, widthOf}
-use Rattle.files.proofs.Fates.{NotCut, Fate, refused, ended, whole, Cut, fate-of}
+use Rattle.files.specs.Promises.{NotCut}
+use Rattle.files.proofs.Fates.{Fate, refused, ended, whole, Cut, fate-of}
 
 fate : (file : List ℕ) → Fate reading 0 file
 unfolding reading

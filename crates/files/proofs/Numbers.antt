@@ -19,10 +19,7 @@ use Rattle.tables.proofs.Former.{way-number}
 use Rattle.tables.proofs.Laws.{none-fine, gives-first, first-gives, large-gives, gives-before}
 use Rattle.questions.specs.Questions.{givenTests, someBroken, yesOrNo, lawfulQuestion}
 use Rattle.questions.proofs.Laws.{planTests}
-
--- a number that a refusal of the file has on paper
-abbrev pub OfFile : ℕ → Type 0
-OfFile number = (121 ≤ number) × (number ≤ 126)
+use Rattle.files.specs.Promises.{OfFile}
 
 pairs-other : (number : ℕ) → ofPairs number ≡ true → 151 ≤ number
 pairs-other number e = by (eqb number 151) refl (eqb number 152) refl (eqb number 153) refl (eqb number 154) refl e

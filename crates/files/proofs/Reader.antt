@@ -12,28 +12,8 @@ use Rattle.tables.proofs.Bools.{or-neither}
 use Rattle.files.specs.Reading.{Reading, fault, read, reading}
 use Rattle.files.specs.Rooms.{Rooms, tooShort, tooSmall, covering}
 use Rattle.files.specs.Reader.{Result, refusedResult, standingResult, unlessSmall, resultOf}
+use Rattle.files.specs.Promises.{OfFile, Untouched, SameLengths, TooSmall, Stands}
 use Rattle.files.proofs.FirstFault.{fault-is}
-use Rattle.files.proofs.Numbers.{OfFile}
-
--- nothing is written
-pub record Untouched (m : Rooms) (r : Result) : Type 0 where
-  pub rooms : r .rooms ≡ m
-  pub boats : r .boats ≡ 0
-  pub pairBytes : r .pairBytes ≡ 0
-  pub rowWords : r .rowWords ≡ 0
-
--- the file is read, the lent memory is enough, and the tables stand there
-pub record Stands (ask : Tables → Told) (file : List ℕ) (m : Rooms) (r : Result) : Type 0 where
-  pub t : Tables
-  pub isRead : reading file ≡ read t
-  pub enough : tooSmall m t ≡ false
-  pub is : r ≡ standingResult ask t m
-
--- the file is read, and a part of the lent memory is too short
-pub record TooSmall (file : List ℕ) (m : Rooms) : Type 0 where
-  pub t : Tables
-  pub isRead : reading file ≡ read t
-  pub short : tooSmall m t ≡ true
 
 module _ (ask : Tables → Told) (file : List ℕ) (m : Rooms) where
   -- 26 at place 0, and nothing is written
@@ -102,11 +82,6 @@ module _ (ask : Tables → Told) (file : List ℕ) (m : Rooms) where
 covering-length : (content room : List ℕ) → tooShort room content ≡ false → length (covering content room) ≡ length room
 covering-length content room e =
     omega (arith, ltb-false (length room) (length content) e, length-append content (drop (length content) room), length-drop (length content) room)
-
-pub record SameLengths (m : Rooms) (r : Result) : Type 0 where
-  pub sizes : length (r .rooms .sizes) ≡ length (m .sizes)
-  pub pairs : length (r .rooms .pairs) ≡ length (m .pairs)
-  pub rows : length (r .rooms .rows) ≡ length (m .rows)
 
 pub lengths-kept : (ask : Tables → Told) (r : Reading) (m : Rooms) → SameLengths m (resultOf ask r m)
 lengths-kept ask (fault number place after) m = record { sizes = refl; pairs = refl; rows = refl }

@@ -22,13 +22,14 @@ use Rattle.files.specs.Limits.{Whole}
 use Rattle.files.specs.Rooms.{Rooms, tooShort, tooSmall, covering}
 use Rattle.files.specs.Reader.{refusedResult, standingResult, resultOf, readResult, deskResult}
 use Rattle.files.specs.Writer.{writeAnswer, writtenRoom}
+use Rattle.files.specs.Promises.{OfFile, Untouched, SameLengths, TooSmall, Stands, FineFile, LawfulByFile, Left, RoomShort}
 use Rattle.files.proofs.Written.{read-written}
 use Rattle.files.proofs.OneFile.{one-file}
 use Rattle.files.proofs.Limits.{sane-whole, sane-small, file-bytes}
 use Rattle.files.proofs.Lengths.{rows-few, file-few}
-use Rattle.files.proofs.Numbers.{OfFile, examination-other, lawful-other, refused-first}
-use Rattle.files.proofs.Reader.{Untouched, Stands, TooSmall, SameLengths, small-26, read-stands, of-file-untouched, refused-fault, 26-small, other-stands, lengths-kept, refused-alike, as-asked}
-use Rattle.files.proofs.Writer.{Left, RoomShort, write-small, write-whole, zero-written, 26-short}
+use Rattle.files.proofs.Numbers.{examination-other, lawful-other, refused-first}
+use Rattle.files.proofs.Reader.{small-26, read-stands, of-file-untouched, refused-fault, 26-small, other-stands, lengths-kept, refused-alike, as-asked}
+use Rattle.files.proofs.Writer.{write-small, write-whole, zero-written, 26-short}
 
 -- ---- the file and what it means
 -- tables that pass the examination have a file of bytes, and reading it gives the same tables
@@ -89,13 +90,7 @@ module _ (file : List ℕ) (m : Rooms) where
   read-keeps-lengths = lengths-kept examination (reading file) m
 
   -- fine is said of the files that are written for tables which pass the examination, and of no other
-  pub record FineFile : Type 0 where
-    pub t : Tables
-    pub fine : Fine t
-    pub isFile : fileOf t ≡ file
-    pub is : readResult file m ≡ standingResult examination t m
-
-  pub read-fine-is-file : Below 256 file → readResult file m .answer .number ≡ 0 → FineFile
+  pub read-fine-is-file : Below 256 file → readResult file m .answer .number ≡ 0 → FineFile file m
   read-fine-is-file small e =
       let s = read-leaves-standing (λ o. omega (arith, e, o .0)) in
       record {
@@ -138,14 +133,6 @@ write-refuses-small t room s = write-small t room (s .fine) (s .short)
 
 -- ---- the desk's question
 module _ (file given : List ℕ) (m : Rooms) where
-  -- the file is read, the memory is enough, the tables are fine and the plan is lawful by them
-  pub record LawfulByFile : Type 0 where
-    pub t : Tables
-    pub isRead : reading file ≡ read t
-    pub enough : tooSmall m t ≡ false
-    pub fine : Fine t
-    pub lawful : Lawful t given
-
   yes-fine : (t : Tables) → lawfulQuestion t given ≡ told 0 [] → Fine t
   unfolding lawfulQuestion
   yes-fine t e =
@@ -155,17 +142,17 @@ module _ (file given : List ℕ) (m : Rooms) where
       examined (nor a (nor b (nor c (nor d (nor g (nor h rest)))))) = none-is-fine t (nor a (nor b (nor c (nor d (nor g (nor h none))))))
 
   -- 0 is said exactly there
-  pub desk-yes-exactly : (deskResult file given m .answer ≡ told 0 []) ↔ LawfulByFile
+  pub desk-yes-exactly : (deskResult file given m .answer ≡ told 0 []) ↔ LawfulByFile file given m
   unfolding deskResult
   desk-yes-exactly = (there, back)
     where
-      there : deskResult file given m .answer ≡ told 0 [] → LawfulByFile
+      there : deskResult file given m .answer ≡ told 0 [] → LawfulByFile file given m
       there e =
           let s = other-stands (λ t. lawfulQuestion t given) file m (λ o. omega (arith, ap (λ w. w .number) e, o .0)) in
           let yes : lawfulQuestion (s .t) given ≡ told 0 [] = sym (ap (λ r. r .answer) (s .is)) ∙ e in
           record { t = s .t; isRead = s .isRead; enough = s .enough; fine = yes-fine (s .t) yes; lawful = lawful-yes (s .t) given yes }
 
-      back : LawfulByFile → deskResult file given m .answer ≡ told 0 []
+      back : LawfulByFile file given m → deskResult file given m .answer ≡ told 0 []
       back l =
           ap (λ r. r .answer) (read-stands (λ t. lawfulQuestion t given) file m (l .t) (l .isRead) (l .enough))
           ∙ yes-lawful (l .t) given (l .fine) (l .lawful)

@@ -18,12 +18,8 @@ use Rattle.tables.proofs.Laws.{none-fine, gives-first, first-gives, gives-refus
 use Rattle.files.specs.File.{fileOf}
 use Rattle.files.specs.Rooms.{tooShort, covering}
 use Rattle.files.specs.Writer.{writeTests, writeAnswer, fileOr, writtenRoom}
+use Rattle.files.specs.Promises.{Left, RoomShort, FileWritten}
 use Rattle.files.proofs.Numbers.{some-test, after-examination}
-
--- what the writer says, and what it leaves
-pub record Left (t : Tables) (room : List ℕ) (answer : Told) (after : List ℕ) : Type 0 where
-  pub says : writeAnswer t room ≡ answer
-  pub leaves : writtenRoom t room ≡ after
 
 module _ (t : Tables) (room : List ℕ) where
   refusing : (w : Told) → 100 ≤ w .number → writeAnswer t room ≡ w → Left t room w room
@@ -55,44 +51,32 @@ module _ (t : Tables) (room : List ℕ) where
   pub write-refused : 100 ≤ writeAnswer t room .number → writtenRoom t room ≡ room
   write-refused l = refusing (writeAnswer t room) l refl .leaves
 
-  -- number 0 is said of tables that pass the examination, where the memory is enough; what stands first is then their file
-  pub record FileWritten : Type 0 where
-    pub fine : Fine t
-    pub enough : tooShort room (fileOf t) ≡ false
-    pub left : Left t room (told 0 (length (fileOf t) ∷ [])) (covering (fileOf t) room)
-    pub first : take (length (fileOf t)) (writtenRoom t room) ≡ fileOf t
-
-  pub zero-written : writeAnswer t room .number ≡ 0 → FileWritten
+  pub zero-written : writeAnswer t room .number ≡ 0 → FileWritten t room
   zero-written e = ⊎-elim fine refused-first (first-gives (tests t) (told 0 []))
     where
-      refused-first : Gives (tests t) (firstOf (tests t) (told 0 [])) → FileWritten
+      refused-first : Gives (tests t) (firstOf (tests t) (told 0 [])) → FileWritten t room
       refused-first g = absurd (omega (arith, e, gives-refused (tests t) _ g, ap (λ w. w .number) (write-examined _ g .says)))
 
-      enough : Fine t → (b : Bool) → tooShort room (fileOf t) ≡ b → FileWritten
+      enough : Fine t → (b : Bool) → tooShort room (fileOf t) ≡ b → FileWritten t room
       enough f true q = absurd (omega (arith, e, ap (λ w. w .number) (write-small f q .says)))
       enough f false q =
           let w = write-whole f q in
           record { fine = f; enough = q; left = w; first = ap (take (length (fileOf t))) (w .leaves) ∙ take-at (fileOf t) (drop (length (fileOf t)) room) (length (fileOf t)) refl }
 
-      fine : NoneApplies (tests t) → FileWritten
+      fine : NoneApplies (tests t) → FileWritten t room
       fine n = enough (none-is-fine t n) (tooShort room (fileOf t)) refl
 
-  -- 26 is said of tables that pass the examination, where the memory is shorter than their file
-  pub record RoomShort : Type 0 where
-    pub fine : Fine t
-    pub short : tooShort room (fileOf t) ≡ true
-
-  pub 26-short : writeAnswer t room .number ≡ 126 → RoomShort
+  pub 26-short : writeAnswer t room .number ≡ 126 → RoomShort t room
   26-short e = ⊎-elim fine refused-first (first-gives (tests t) (told 0 []))
     where
-      refused-first : Gives (tests t) (firstOf (tests t) (told 0 [])) → RoomShort
+      refused-first : Gives (tests t) (firstOf (tests t) (told 0 [])) → RoomShort t room
       refused-first g =
           let said = ap (λ w. w .number) (write-examined _ g .says) in
           absurd (omega (arith, some-test (after-examination t g (omega (arith, e, said)))))
 
-      enough : Fine t → (b : Bool) → tooShort room (fileOf t) ≡ b → RoomShort
+      enough : Fine t → (b : Bool) → tooShort room (fileOf t) ≡ b → RoomShort t room
       enough f true q = record { fine = f; short = q }
       enough f false q = absurd (omega (arith, e, ap (λ w. w .number) (write-whole f q .says)))
 
-      fine : NoneApplies (tests t) → RoomShort
+      fine : NoneApplies (tests t) → RoomShort t room
       fine n = enough (none-is-fine t n) (tooShort room (fileOf t)) refl

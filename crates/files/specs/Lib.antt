@@ -5,4 +5,5 @@ pub mod Limits
 pub mod Rooms
 pub mod Reader
 pub mod Writer
+pub mod Promises
 pub mod Cases

@@ -26,11 +26,17 @@ fn word_at(file: &[u8], at: usize) -> u64
     requires { ⌜ at + 8 ≤ length (now file) ⌝ }
     ensures { λ r. ⌜ r ≡ number (take 8 (drop at (now (file .entry)))) ⌝ }
 {
-    let a = byte_of_word(file, at) + 0x100 * byte_of_word(file, at + 1);
-    let b = byte_of_word(file, at + 2) + 0x100 * byte_of_word(file, at + 3);
-    let c = byte_of_word(file, at + 4) + 0x100 * byte_of_word(file, at + 5);
-    let d = byte_of_word(file, at + 6) + 0x100 * byte_of_word(file, at + 7);
-    a + 0x10000 * b + 0x100000000 * (c + 0x10000 * d)
+    let b0 = byte_of_word(file, at);
+    let b1 = byte_of_word(file, at + 1);
+    let b2 = byte_of_word(file, at + 2);
+    let b3 = byte_of_word(file, at + 3);
+    let b4 = byte_of_word(file, at + 4);
+    let b5 = byte_of_word(file, at + 5);
+    let b6 = byte_of_word(file, at + 6);
+    let b7 = byte_of_word(file, at + 7);
+    let low = b0 + 0x100 * b1 + 0x10000 * (b2 + 0x100 * b3);
+    let high = b4 + 0x100 * b5 + 0x10000 * (b6 + 0x100 * b7);
+    low + 0x100000000 * high
 }
 
 // The words of one PR go to the rows, from one place on.

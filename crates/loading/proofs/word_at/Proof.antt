@@ -14,12 +14,6 @@ add-byte-of-word c = search needs
 byte-of-word-requires-2 : tie.Need-byte-of-word-requires-2
 byte-of-word-requires-2 c κs = search needs
 
-mul-a : tie.Need-mul-a
-mul-a c = search needs
-
-add-a : tie.Need-add-a
-add-a c = search needs
-
 add-byte-of-word-2 : tie.Need-add-byte-of-word-2
 add-byte-of-word-2 c = search needs
 
@@ -31,12 +25,6 @@ add-byte-of-word-3 c = search needs
 
 byte-of-word-requires-4 : tie.Need-byte-of-word-requires-4
 byte-of-word-requires-4 c κs = search needs
-
-mul-b : tie.Need-mul-b
-mul-b c = search needs
-
-add-b : tie.Need-add-b
-add-b c = search needs
 
 add-byte-of-word-4 : tie.Need-add-byte-of-word-4
 add-byte-of-word-4 c = search needs
@@ -50,12 +38,6 @@ add-byte-of-word-5 c = search needs
 byte-of-word-requires-6 : tie.Need-byte-of-word-requires-6
 byte-of-word-requires-6 c κs = search needs
 
-mul-c : tie.Need-mul-c
-mul-c c = search needs
-
-add-c : tie.Need-add-c
-add-c c = search needs
-
 add-byte-of-word-6 : tie.Need-add-byte-of-word-6
 add-byte-of-word-6 c = search needs
 
@@ -68,29 +50,47 @@ add-byte-of-word-7 c = search needs
 byte-of-word-requires-8 : tie.Need-byte-of-word-requires-8
 byte-of-word-requires-8 c κs = search needs
 
-mul-d : tie.Need-mul-d
-mul-d c = search needs
+mul-low : tie.Need-mul-low
+mul-low c = search needs
 
-add-d : tie.Need-add-d
-add-d c = search needs
+add-low : tie.Need-add-low
+add-low c = search needs
+
+mul-low-2 : tie.Need-mul-low-2
+mul-low-2 c = search needs
+
+add-low-2 : tie.Need-add-low-2
+add-low-2 c = search needs
+
+mul-low-3 : tie.Need-mul-low-3
+mul-low-3 c = search needs
+
+add-low-3 : tie.Need-add-low-3
+add-low-3 c = search needs
+
+mul-high : tie.Need-mul-high
+mul-high c = search needs
+
+add-high : tie.Need-add-high
+add-high c = search needs
+
+mul-high-2 : tie.Need-mul-high-2
+mul-high-2 c = search needs
+
+add-high-2 : tie.Need-add-high-2
+add-high-2 c = search needs
+
+mul-high-3 : tie.Need-mul-high-3
+mul-high-3 c = search needs
+
+add-high-3 : tie.Need-add-high-3
+add-high-3 c = search needs
 
 mul-result : tie.Need-mul-result
 mul-result c = search needs
 
 add-result : tie.Need-add-result
 add-result c = search needs
-
-mul-result-2 : tie.Need-mul-result-2
-mul-result-2 c = search needs
-
-add-result-2 : tie.Need-add-result-2
-add-result-2 c = search needs
-
-mul-result-3 : tie.Need-mul-result-3
-mul-result-3 c = search needs
-
-add-result-3 : tie.Need-add-result-3
-add-result-3 c = search needs
 
 returns : tie.Need-returns
 returns c =
@@ -113,30 +113,30 @@ word-at-spec =
     byte-of-word-requires
     add-byte-of-word
     byte-of-word-requires-2
-    mul-a
-    add-a
     add-byte-of-word-2
     byte-of-word-requires-3
     add-byte-of-word-3
     byte-of-word-requires-4
-    mul-b
-    add-b
     add-byte-of-word-4
     byte-of-word-requires-5
     add-byte-of-word-5
     byte-of-word-requires-6
-    mul-c
-    add-c
     add-byte-of-word-6
     byte-of-word-requires-7
     add-byte-of-word-7
     byte-of-word-requires-8
-    mul-d
-    add-d
+    mul-low
+    add-low
+    mul-low-2
+    add-low-2
+    mul-low-3
+    add-low-3
+    mul-high
+    add-high
+    mul-high-2
+    add-high-2
+    mul-high-3
+    add-high-3
     mul-result
     add-result
-    mul-result-2
-    add-result-2
-    mul-result-3
-    add-result-3
     returns)
