@@ -1,5 +1,5 @@
 -- The laws of the file, its reading and its writing, as the page of promises cites them. (Document 02, No. 2.)
-use mathlib.Core.Path.{_≡_, refl, sym, ap, _∙_}
+use mathlib.Core.Path.{_≡_, sym, ap, _∙_}
 use mathlib.Core.Logic.{_↔_}
 use mathlib.Core.Bool.{false}
 use mathlib.Core.List.{List, [], _∷_}
@@ -10,7 +10,7 @@ use Rattle.problem.specs.Tables.{Tables, boats}
 use Rattle.problem.specs.Plans.{Lawful}
 use Rattle.problem.specs.Replies.{told, refused}
 use Rattle.tables.specs.Applies.{NoneApplies, none, nor}
-use Rattle.tables.specs.Examination.{tests, fineTold, examination, Fine}
+use Rattle.tables.specs.Examination.{fineTold, examination, Fine}
 use Rattle.tables.proofs.Laws.{small-none, none-is-fine}
 use Rattle.tables.proofs.Fine.{fine-sane, fine-told}
 use Rattle.questions.specs.Questions.{givenTests, someBroken, yesOrNo, lawfulQuestion}

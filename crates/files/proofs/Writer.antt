@@ -1,11 +1,11 @@
 -- What the writer leaves: where the examination refuses, where the memory is too small, and where the file is written.
-use mathlib.Core.Path.{_≡_, refl, sym, ap, _∙_}
+use mathlib.Core.Path.{_≡_, refl, ap, _∙_}
 use mathlib.Core.Logic.{⊎-elim}
 use mathlib.Core.Bool.{Bool, true, false}
-use mathlib.Core.List.{List, [], _∷_, _++_}
+use mathlib.Core.List.{List, [], _∷_}
 use Prim.Native.Nat.{ℕ, _≤_}
 use native.Mathlib.Omega.{arith}
-use borrow.Author.Tests.{ne-eqb, eq-eqb}
+use borrow.Author.Tests.{ne-eqb}
 use lib.Dec.{eqb}
 use lib.ListN.{length, take, drop}
 use lib.Seq.{take-at}
@@ -14,7 +14,7 @@ use Rattle.problem.specs.Replies.{Told, told, refused}
 use Rattle.tables.specs.Tests.{Test, once, firstOf}
 use Rattle.tables.specs.Applies.{NoneApplies, none, nor, Gives, here}
 use Rattle.tables.specs.Examination.{tests, Fine}
-use Rattle.tables.proofs.Laws.{none-fine, gives-first, first-gives, gives-refused, gives-before, after-none, small-none, fine-none, none-is-fine}
+use Rattle.tables.proofs.Laws.{none-fine, gives-first, first-gives, gives-refused, gives-before, after-none, fine-none, none-is-fine}
 use Rattle.files.specs.File.{fileOf}
 use Rattle.files.specs.Rooms.{tooShort, covering}
 use Rattle.files.specs.Writer.{writeTests, writeAnswer, fileOr, writtenRoom}

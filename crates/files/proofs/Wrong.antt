@@ -1,11 +1,11 @@
 -- Wrong programs of any shape, each with a file and lent memory on which the promise refuses what it leaves.
 use mathlib.Core.Path.{_≡_, refl, ap}
-use mathlib.Core.List.{List, [], _∷_, _++_}
+use mathlib.Core.List.{[], _∷_, _++_}
 use Prim.Native.Nat.{ℕ}
 use borrow.Author.Tests.{eqb-false}
 use lib.ListN.{getD}
 use Rattle.problem.specs.Lowest.{lowestFrom, lowest, sum}
-use Rattle.problem.specs.Tables.{Tables, tables, start}
+use Rattle.problem.specs.Tables.{tables, start}
 use Rattle.problem.specs.Replies.{Told, told, refused}
 use Rattle.tables.specs.Tests.{firstOf}
 use Rattle.tables.specs.Examination.{pairOfWord, badWord, wayBad, examination}

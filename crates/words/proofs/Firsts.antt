@@ -12,7 +12,7 @@ use lib.Dec.{leb}
 use Rattle.problem.specs.Tables.{size, listed, lower, start}
 use Rattle.problem.specs.Rising.{Rising}
 use Rattle.problem.proofs.Lowest.{lowest-le, lowest-fails, lowest-passes, lowest-here, lowest-none, lowest-before}
-use Rattle.problem.proofs.Starts.{start-zero, start-suc}
+use Rattle.problem.proofs.Starts.{start-suc}
 use Rattle.words.specs.Layout.{firstPair}
 
 module _ (pairs : List ℕ) where

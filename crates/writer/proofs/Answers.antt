@@ -4,7 +4,7 @@ use mathlib.Core.List.{List, [], _∷_, _++_}
 use Prim.Native.Nat.{ℕ, _+_, _*_, _/_, _%_, _≤_, _<_}
 use native.Mathlib.Omega.{arith}
 use borrow.Author.Tests.{lt-ltb, le-ltb}
-use lib.ListN.{length, length-append}
+use lib.ListN.{length}
 use Rattle.problem.specs.Tables.{Tables, boats, listed}
 use Rattle.problem.specs.Sane.{Sane}
 use Rattle.problem.specs.Replies.{Told, told, refused}

@@ -1,10 +1,9 @@
 use mathlib.Core.Bool.{false}
-use mathlib.Core.Path.{_≡_, sym, ap, _∙_}
+use mathlib.Core.Path.{sym, ap, _∙_}
 use borrow.Author.Needs.{needs}
 use Rattle.writer.specs.Replies.{writtenTold}
 use Rattle.writer.specs.declared.Written.{Written}
 use Rattle.handing.specs.declared.HarbourReply.{HarbourReply}
-use Rattle.handing.specs.declared.HarbourWritten.{HarbourWritten}
 use Rattle.handing.specs.Handed.{lengthOrPlace, handedWritten}
 use Rattle.handing.proofs.Numbers.{refusal-written}
 use Rattle.handing.proofs.written.Statement.{statement}
