@@ -3,16 +3,16 @@ ghost use Rattle.std.specs.Prelude.{◌≡◌, ◌+◌, ◌≤◌, length};
 ghost use Rattle.problem.specs.Rising.{Rising};
 ghost use Rattle.problem.specs.Tables.{Tables, tables};
 ghost use Rattle.problem.specs.Sane.{Sane};
-ghost use Rattle.words.specs.Places.{starts, rowStartsEnd, lasts, marks, used};
-ghost use Rattle.words.specs.Layout.{firstPair, ChangedOnly, Firsts, Chained};
+ghost use Rattle.words.specs.Places.{starts, row_starts_end, lasts, marks, used};
+ghost use Rattle.words.specs.Layout.{first_pair, ChangedOnly, Firsts, Chained};
 
 use words::Words;
 
 // The end of the pairs that have a boat as their lower one, from the first of them on.
 fn pairs_end(pairs: &[u8], from: usize, boat: usize) -> usize
     requires rising { Rising pairs.now }
-    requires from_value { from ≡ firstPair pairs.now boat }
-    ensures { (from ≤ result) × (result ≡ firstPair pairs.now (boat + 1)) }
+    requires from_value { from ≡ first_pair pairs.now boat }
+    ensures { (from ≤ result) × (result ≡ first_pair pairs.now (boat + 1)) }
 {
     let count = pairs.len() / 2;
     let mut k = from;
@@ -32,7 +32,7 @@ pub fn index_ahead(sizes: &[u8], pairs: &[u8], rows: &[u64], work: &mut [u64])
     requires sane { Sane t }
     requires used_in_bounds { used ≤ length work.old }
     ensures firsts { Firsts t work.new }
-    ensures changed_only { ChangedOnly starts rowStartsEnd work.old work.new }
+    ensures changed_only { ChangedOnly starts row_starts_end work.old work.new }
 {
     let n = sizes.len();
     let mut k: usize = 0;

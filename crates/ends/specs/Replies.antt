@@ -5,11 +5,11 @@ use Rattle.problem.specs.declared.Reply.{Reply}
 use Rattle.problem.specs.declared.Refusal.{Refusal}
 use Rattle.ends.specs.declared.Ended.{Ended}
 use Rattle.ends.specs.declared.Ended.TheVariants.{Solved as EndSolved, NoPlan as EndNoPlan, Undecided as EndUndecided}
-use Rattle.ends.specs.Ends.{countsThen}
+use Rattle.ends.specs.Ends.{counts_then}
 
 -- a refusal as a reply
-abbrev pub refusedReply : Refusal → Reply
-refusedReply why = record { answer = Refused why; checks = 0; trials = 0 }
+abbrev pub refused_reply : Refusal → Reply
+refused_reply why = record { answer = Refused why; checks = 0; trials = 0 }
 
 -- the end of a search as a reply: where an undecided one stands is not told
 abbrev pub answer_of : Ended → Answer
@@ -17,5 +17,5 @@ answer_of (EndSolved k) = Solved
 answer_of (EndNoPlan k) = NoPlan
 answer_of (EndUndecided k which p) = Undecided which
 
-abbrev pub replyOf : Ended → Reply
-replyOf r = record { answer = answer_of r; checks = (countsThen r).checks; trials = (countsThen r).trials }
+abbrev pub reply_at_end : Ended → Reply
+reply_at_end r = record { answer = answer_of r; checks = (counts_then r).checks; trials = (counts_then r).trials }

@@ -3,9 +3,9 @@ ghost use Rattle.std.specs.Prelude.{◌≡◌, ◌++◌, ℕ, ◌≤◌, ◌<◌
 ghost use Rattle.words.specs.Layout.{word};
 ghost use Rattle.events.specs.declared.Counts.{Counts};
 ghost use Rattle.ends.specs.declared.Ended.TheVariants.{Solved};
-ghost use Rattle.ends.specs.Ends.{decisionThen};
+ghost use Rattle.ends.specs.Ends.{decision_then};
 ghost use Rattle.runs.specs.Runs.{written};
-ghost use Rattle.ends.specs.Replies.{refusedReply, replyOf};
+ghost use Rattle.ends.specs.Replies.{refused_reply, reply_at_end};
 
 use events::Counts;
 use problem::{Allowance, Answer, Refusal, Reply};
@@ -27,7 +27,7 @@ pub enum Ended {
 }
 
 pub fn refused(why: Refusal) -> Reply
-    ensures { result ≡ refusedReply why }
+    ensures { result ≡ refused_reply why }
 {
     Reply {
         answer: Answer::Refused(why),
@@ -53,7 +53,7 @@ fn copy_plan(n: usize, work: &[u64], plan: &mut [u8])
 pub fn write_plan(ended: Ended, n: usize, work: &[u64], plan: &mut [u8])
     requires n_in_bounds { (n ≤ length work.now) × (n ≤ length plan.old) }
     requires k_bound { (c : Counts) → ended ≡ Solved c → (k : ℕ) → k < n → word work.now k < 256 }
-    ensures { plan.new ≡ written (decisionThen ended (take n work.now)) ++ drop (length (written (decisionThen ended (take n work.now)))) plan.old }
+    ensures { plan.new ≡ written (decision_then ended (take n work.now)) ++ drop (length (written (decision_then ended (take n work.now)))) plan.old }
 {
     match ended {
         Ended::Solved(_) => copy_plan(n, work, plan),
@@ -74,7 +74,7 @@ fn reply(answer: Answer, counts: Counts) -> Reply
 
 // Where an undecided run stands is not told.
 pub fn reply_of(ended: Ended) -> Reply
-    ensures { result ≡ replyOf ended }
+    ensures { result ≡ reply_at_end ended }
 {
     match ended {
         Ended::Solved(k) => reply(Answer::Solved, k),

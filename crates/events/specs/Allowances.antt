@@ -20,11 +20,11 @@ outcome d checks trials = record { decision = d; checks = checks; trials = trial
 
 -- the allowances are ca checks and ta trials; c checks and t trials have been made, and the events are still to come.
 -- Before a trial, if the trials made equal their allowance, stop. Before a check, the same with checks
-unfoldable pub cutFrom : (ca ta c t : ℕ) → List Event → Ending → Outcome
-cutFrom ca ta c t [] r = outcome (decided r) c t
-cutFrom ca ta c t (trial i a ∷ es) r = elim (eqb t ta) [ true ↦ outcome (undecided Trials) c t | false ↦ cutFrom ca ta c (suc t) es r ]
-cutFrom ca ta c t (check h x i a ∷ es) r = elim (eqb c ca) [ true ↦ outcome (undecided Checks) c t | false ↦ cutFrom ca ta (suc c) t es r ]
+unfoldable pub cut_from : (ca ta c t : ℕ) → List Event → Ending → Outcome
+cut_from ca ta c t [] r = outcome (decided r) c t
+cut_from ca ta c t (trial i a ∷ es) r = elim (eqb t ta) [ true ↦ outcome (undecided Trials) c t | false ↦ cut_from ca ta c (suc t) es r ]
+cut_from ca ta c t (check h x i a ∷ es) r = elim (eqb c ca) [ true ↦ outcome (undecided Checks) c t | false ↦ cut_from ca ta (suc c) t es r ]
 
 -- a whole search under its allowances
 unfoldable pub cut : (ca ta : ℕ) → Search → Outcome
-cut ca ta s = cutFrom ca ta 0 0 s.events s.ending
+cut ca ta s = cut_from ca ta 0 0 s.events s.ending

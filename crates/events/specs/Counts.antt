@@ -6,7 +6,7 @@ use Rattle.events.specs.declared.Counts.{Counts}
 use Rattle.events.specs.declared.Counted.{Counted}
 use Rattle.events.specs.declared.Counted.TheVariants.{Within, Out}
 use Rattle.events.specs.Events.{Event, trial, check, Search, trials, checks, ◌then◌}
-use Rattle.events.specs.Allowances.{Outcome, cutFrom}
+use Rattle.events.specs.Allowances.{Outcome, cut_from}
 
 abbrev pub fresh : (checks trials : ℕ) → Counts
 fresh checks trials = record { checks = 0; trials = 0; most_checks = checks; most_trials = trials }
@@ -15,30 +15,30 @@ abbrev pub covered : Bool → (within : Counts) → Counted
 covered true within = Within within
 covered false within = Out
 
-abbrev pub withChecks : Counts → ℕ → Counts
-withChecks m checks = record { checks = checks; trials = m.trials; most_checks = m.most_checks; most_trials = m.most_trials }
+abbrev pub with_checks : Counts → ℕ → Counts
+with_checks m checks = record { checks = checks; trials = m.trials; most_checks = m.most_checks; most_trials = m.most_trials }
 
-abbrev pub withTrials : Counts → ℕ → Counts
-withTrials m trials = record { checks = m.checks; trials = trials; most_checks = m.most_checks; most_trials = m.most_trials }
+abbrev pub with_trials : Counts → ℕ → Counts
+with_trials m trials = record { checks = m.checks; trials = trials; most_checks = m.most_checks; most_trials = m.most_trials }
 
-abbrev pub trialCounted : Counts → Counted
-trialCounted m = covered (ltb m.trials m.most_trials) (withTrials m (m.trials + 1))
+abbrev pub trial_counted : Counts → Counted
+trial_counted m = covered (ltb m.trials m.most_trials) (with_trials m (m.trials + 1))
 
-abbrev pub checkCounted : Counts → Counted
-checkCounted m = covered (ltb m.checks m.most_checks) (withChecks m (m.checks + 1))
+abbrev pub check_counted : Counts → Counted
+check_counted m = covered (ltb m.checks m.most_checks) (with_checks m (m.checks + 1))
 
 -- so many checks, one after the other
-abbrev pub checksCounted : Counts → (due : ℕ) → Counted
-checksCounted m due = covered (leb due (m.most_checks - m.checks)) (withChecks m (m.checks + due))
+abbrev pub checks_counted : Counts → (due : ℕ) → Counted
+checks_counted m due = covered (leb due (m.most_checks - m.checks)) (with_checks m (m.checks + due))
 
 -- .. and where they are not all covered, as many as the allowance has left: it is used up then
-abbrev pub allChecks : Counts → Counts
-allChecks m = withChecks m m.most_checks
+abbrev pub with_all_checks : Counts → Counts
+with_all_checks m = with_checks m m.most_checks
 
 -- no count has passed its allowance
 pub record Fits (m : Counts) : Type 0 where
-  pub checksFit : m.checks ≤ m.most_checks
-  pub trialsFit : m.trials ≤ m.most_trials
+  pub checks_fit : m.checks ≤ m.most_checks
+  pub trials_fit : m.trials ≤ m.most_trials
 
 -- ---- what was made
 -- the counts after some events more
@@ -60,7 +60,7 @@ pub record Leads (m : Counts) (x : Search) (k : Counts) (y : Search) : Type 0 wh
 -- ---- what is not made
 -- what is still to come of a search, under the counts reached
 abbrev pub cut_at : Counts → Search → Outcome
-cut_at m x = cutFrom m.most_checks m.most_trials m.checks m.trials x.events x.ending
+cut_at m x = cut_from m.most_checks m.most_trials m.checks m.trials x.events x.ending
 
 -- an event that is due finds its allowance used up, and which one it is
 abbrev pub UsedUp : Counts → Event → Allowance → Type 0
@@ -75,4 +75,4 @@ pub record StopsIn (m : Counts) (es : List Event) (which : Allowance) (made : �
   pub split : es ≡ before ++ due ∷ behind
   pub count : length before ≡ made
   pub makes : Makes m before k
-  pub usedUp : UsedUp k due which
+  pub used_up : UsedUp k due which

@@ -1,6 +1,6 @@
 // What a search does that is counted, and the counts beside their allowances.
 ghost use Rattle.std.specs.Prelude.{◌≡◌, ◌≤◌};
-ghost use Rattle.events.specs.Counts.{fresh, trialCounted, checkCounted, checksCounted, allChecks};
+ghost use Rattle.events.specs.Counts.{fresh, trial_counted, check_counted, checks_counted, with_all_checks};
 
 // The checks and trials made, each beside its allowance. It goes by value.
 #[derive(Drop)]
@@ -32,7 +32,7 @@ impl Counts {
 
     // A trial is due.
     pub fn trial(self) -> Counted
-        ensures { result ≡ trialCounted self }
+        ensures { result ≡ trial_counted self }
     {
         let tried = self.trials;
         let most = self.most_trials;
@@ -50,7 +50,7 @@ impl Counts {
 
     // A check is due.
     pub fn check(self) -> Counted
-        ensures { result ≡ checkCounted self }
+        ensures { result ≡ check_counted self }
     {
         let made = self.checks;
         let most = self.most_checks;
@@ -69,7 +69,7 @@ impl Counts {
     // So many checks are due, one after the other.
     pub fn check_each(self, due: u64) -> Counted
         requires { self.checks ≤ self.most_checks }
-        ensures { result ≡ checksCounted self due }
+        ensures { result ≡ checks_counted self due }
     {
         let made = self.checks;
         let most = self.most_checks;
@@ -87,7 +87,7 @@ impl Counts {
 
     // More checks were due than the allowance has left: those that it has left are made.
     pub fn all_checks(self) -> Counts
-        ensures { result ≡ allChecks self }
+        ensures { result ≡ with_all_checks self }
     {
         let most = self.most_checks;
         Counts {

@@ -8,28 +8,28 @@ use lib.ListN.{length, get_or, take, drop, length-append, length-drop, take-appe
 use lib.Seq.{length-take-le, take-append-le, drop-append-le, take-suc, take_all, get_or-drop, get_or-append-add, get_or_at}
 use Rattle.files.specs.Bytes.{bytes_of, number, words_of, joined, Below}
 
-pub bytes-length : (k w : ℕ) → length (bytes_of k w) ≡ k
+pub bytes_length : (k w : ℕ) → length (bytes_of k w) ≡ k
 unfolding bytes_of
-bytes-length zero w = refl
-bytes-length (suc k) w = ap suc (bytes-length k (w / 256))
+bytes_length zero w = refl
+bytes_length (suc k) w = ap suc (bytes_length k (w / 256))
 
-pub number-of-bytes : (k w : ℕ) → w < 256 ^ k → number (bytes_of k w) ≡ w
+pub number_of_bytes : (k w : ℕ) → w < 256 ^ k → number (bytes_of k w) ≡ w
 unfolding bytes_of number
-number-of-bytes zero w l = omega arith
-number-of-bytes (suc k) w l =
-    let ih : number (bytes_of k (w / 256)) ≡ w / 256 = number-of-bytes k (w / 256) ((div-lt_iff_lt-mul (omega arith)).1 (omega arith)) in
+number_of_bytes zero w l = omega arith
+number_of_bytes (suc k) w l =
+    let ih : number (bytes_of k (w / 256)) ≡ w / 256 = number_of_bytes k (w / 256) ((div-lt_iff_lt-mul (omega arith)).1 (omega arith)) in
     omega arith
 
 -- ---- each entry below a bound
-pub below-head : {bound : ℕ} (x : ℕ) (xs : List ℕ) → Below bound (x ∷ xs) → x < bound
-below-head x xs b = b 0 (omega arith)
+pub below_head : {bound : ℕ} (x : ℕ) (xs : List ℕ) → Below bound (x ∷ xs) → x < bound
+below_head x xs b = b 0 (omega arith)
 
-pub below-tail : {bound : ℕ} (x : ℕ) (xs : List ℕ) → Below bound (x ∷ xs) → Below bound xs
-below-tail x xs b i l = b (suc i) (omega arith)
+pub below_tail : {bound : ℕ} (x : ℕ) (xs : List ℕ) → Below bound (x ∷ xs) → Below bound xs
+below_tail x xs b i l = b (suc i) (omega arith)
 
-pub below-cons : {bound : ℕ} (x : ℕ) (xs : List ℕ) → x < bound → Below bound xs → Below bound (x ∷ xs)
-below-cons x xs p b zero l = p
-below-cons x xs p b (suc i) l = b i (omega arith)
+pub below_cons : {bound : ℕ} (x : ℕ) (xs : List ℕ) → x < bound → Below bound xs → Below bound (x ∷ xs)
+below_cons x xs p b zero l = p
+below_cons x xs p b (suc i) l = b i (omega arith)
 
 pub below_left : {bound : ℕ} (xs ys : List ℕ) → Below bound (xs ++ ys) → Below bound xs
 below_left xs ys b i l = rw (get_or-append xs ys 0 i l) at (b i (omega (arith, length-append xs ys)))
@@ -37,26 +37,26 @@ below_left xs ys b i l = rw (get_or-append xs ys 0 i l) at (b i (omega (arith, l
 pub below_right : {bound : ℕ} (xs ys : List ℕ) → Below bound (xs ++ ys) → Below bound ys
 below_right xs ys b i l = rw (get_or-append-add xs ys i 0) at (b (length xs + i) (omega (arith, length-append xs ys)))
 
-pub below-join : {bound : ℕ} (xs ys : List ℕ) → Below bound xs → Below bound ys → Below bound (xs ++ ys)
-below-join [] ys b c i l = c i l
-below-join (x ∷ xs) ys b c zero l = b 0 (omega arith)
-below-join (x ∷ xs) ys b c (suc i) l = below-join xs ys (below-tail x xs b) c i (omega arith)
+pub below_join : {bound : ℕ} (xs ys : List ℕ) → Below bound xs → Below bound ys → Below bound (xs ++ ys)
+below_join [] ys b c i l = c i l
+below_join (x ∷ xs) ys b c zero l = b 0 (omega arith)
+below_join (x ∷ xs) ys b c (suc i) l = below_join xs ys (below_tail x xs b) c i (omega arith)
 
-pub bytes-of-number : (bytes : List ℕ) → Below 256 bytes → bytes_of (length bytes) (number bytes) ≡ bytes
+pub bytes_of_number : (bytes : List ℕ) → Below 256 bytes → bytes_of (length bytes) (number bytes) ≡ bytes
 unfolding bytes_of number
-bytes-of-number [] b = refl
-bytes-of-number (x ∷ bytes) b =
-    let small : x < 256 = below-head x bytes b in
+bytes_of_number [] b = refl
+bytes_of_number (x ∷ bytes) b =
+    let small : x < 256 = below_head x bytes b in
     let low : (x + 256 * number bytes) % 256 ≡ x = omega arith in
     let high : (x + 256 * number bytes) / 256 ≡ number bytes = omega arith in
-    ap₂ ◌∷◌ low (ap (bytes_of (length bytes)) high ∙ bytes-of-number bytes (below-tail x bytes b))
+    ap₂ ◌∷◌ low (ap (bytes_of (length bytes)) high ∙ bytes_of_number bytes (below_tail x bytes b))
 
-pub number-below : (bytes : List ℕ) → Below 256 bytes → number bytes < 256 ^ length bytes
+pub number_below : (bytes : List ℕ) → Below 256 bytes → number bytes < 256 ^ length bytes
 unfolding number
-number-below [] b = omega arith
-number-below (x ∷ bytes) b =
-    let small : x < 256 = below-head x bytes b in
-    let ih : number bytes < 256 ^ length bytes = number-below bytes (below-tail x bytes b) in
+number_below [] b = omega arith
+number_below (x ∷ bytes) b =
+    let small : x < 256 = below_head x bytes b in
+    let ih : number bytes < 256 ^ length bytes = number_below bytes (below_tail x bytes b) in
     let power : 256 ^ suc (length bytes) ≡ 256 * 256 ^ length bytes = omega arith in
     omega arith
 
@@ -77,32 +77,32 @@ unfolding joined
 joined_length zero k f e = omega arith
 joined_length (suc n) k f e = omega (arith, length-append (joined n f) (f n), joined_length n k f e, e n)
 
-pub joined-below : {bound : ℕ} (n : ℕ) (f : ℕ → List ℕ) → ((i : ℕ) → i < n → Below bound (f i)) → Below bound (joined n f)
+pub joined_below : {bound : ℕ} (n : ℕ) (f : ℕ → List ℕ) → ((i : ℕ) → i < n → Below bound (f i)) → Below bound (joined n f)
 unfolding joined
-joined-below zero f b i l = absurd (omega arith)
-joined-below (suc n) f b i l = below-join (joined n f) (f n) (joined-below n f (λ j h. b j (omega arith))) (b n (omega arith)) i l
+joined_below zero f b i l = absurd (omega arith)
+joined_below (suc n) f b i l = below_join (joined n f) (f n) (joined_below n f (λ j h. b j (omega arith))) (b n (omega arith)) i l
 
 -- ---- words
-pub words-length : (m : ℕ) (bytes : List ℕ) → length (words_of m bytes) ≡ m
+pub words_length : (m : ℕ) (bytes : List ℕ) → length (words_of m bytes) ≡ m
 unfolding words_of
-words-length zero bytes = refl
-words-length (suc m) bytes = ap suc (words-length m (drop 8 bytes))
+words_length zero bytes = refl
+words_length (suc m) bytes = ap suc (words_length m (drop 8 bytes))
 
-pub below-take : {bound : ℕ} (k : ℕ) (xs : List ℕ) → Below bound xs → Below bound (take k xs)
-below-take {bound} k xs b = below_left (take k xs) (drop k xs) (subst (Below bound) (sym (take-append-drop k xs)) b)
+pub below_take : {bound : ℕ} (k : ℕ) (xs : List ℕ) → Below bound xs → Below bound (take k xs)
+below_take {bound} k xs b = below_left (take k xs) (drop k xs) (subst (Below bound) (sym (take-append-drop k xs)) b)
 
-pub below-drop : {bound : ℕ} (k : ℕ) (xs : List ℕ) → Below bound xs → Below bound (drop k xs)
-below-drop {bound} k xs b = below_right (take k xs) (drop k xs) (subst (Below bound) (sym (take-append-drop k xs)) b)
+pub below_drop : {bound : ℕ} (k : ℕ) (xs : List ℕ) → Below bound xs → Below bound (drop k xs)
+below_drop {bound} k xs b = below_right (take k xs) (drop k xs) (subst (Below bound) (sym (take-append-drop k xs)) b)
 
 -- eight bytes say a word
-pub words-below : (m : ℕ) (bytes : List ℕ) → length bytes ≡ 8 * m → Below 256 bytes → Below (2 ^ 64) (words_of m bytes)
+pub words_below : (m : ℕ) (bytes : List ℕ) → length bytes ≡ 8 * m → Below 256 bytes → Below (2 ^ 64) (words_of m bytes)
 unfolding words_of
-words-below zero bytes e b i l = absurd (omega arith)
-words-below (suc m) bytes e b i l =
+words_below zero bytes e b i l = absurd (omega arith)
+words_below (suc m) bytes e b i l =
     let eight : length (take 8 bytes) ≡ 8 = length-take-le 8 bytes (omega arith) in
-    let word : number (take 8 bytes) < 256 ^ 8 = rw eight at (number-below (take 8 bytes) (below-take 8 bytes b)) in
-    below-cons (number (take 8 bytes)) (words_of m (drop 8 bytes)) word
-    (words-below m (drop 8 bytes) (omega (arith, length-drop 8 bytes)) (below-drop 8 bytes b)) i l
+    let word : number (take 8 bytes) < 256 ^ 8 = rw eight at (number_below (take 8 bytes) (below_take 8 bytes b)) in
+    below_cons (number (take 8 bytes)) (words_of m (drop 8 bytes)) word
+    (words_below m (drop 8 bytes) (omega (arith, length-drop 8 bytes)) (below_drop 8 bytes b)) i l
 
 -- the last of m + 1 words
 pub words_last : (m : ℕ) (front back : List ℕ) → length front ≡ 8 * m → length back ≡ 8 → words_of (suc m) (front ++ back) ≡ words_of m front ++ (number back ∷ [])
@@ -121,9 +121,9 @@ unfolding joined words_of
 rows_back rows from zero l b = refl
 rows_back rows from (suc m) l b =
     let parts : ℕ → List ℕ = λ a. bytes_of 8 (get_or rows (from + a) 0) in
-    words_last m (joined m parts) (parts m) (joined_length m 8 parts (λ i. bytes-length 8 (get_or rows (from + i) 0))) (bytes-length 8 (get_or rows (from + m) 0))
+    words_last m (joined m parts) (parts m) (joined_length m 8 parts (λ i. bytes_length 8 (get_or rows (from + i) 0))) (bytes_length 8 (get_or rows (from + m) 0))
     ∙ ap₂ (λ ws w. ws ++ (w ∷ [])) (rows_back rows from m (omega arith) b)
-    (number-of-bytes 8 (get_or rows (from + m) 0) (b (from + m) (omega arith)) ∙ sym (get_or-drop from rows m 0))
+    (number_of_bytes 8 (get_or rows (from + m) 0) (b (from + m) (omega arith)) ∙ sym (get_or-drop from rows m 0))
     ∙ sym (take-suc (drop from rows) m 0 (omega (arith, length-drop from rows)))
 
 -- the bytes that m words are read from are those of the words
@@ -132,15 +132,15 @@ WordsBack m bytes = joined m (λ a. bytes_of 8 (get_or (words_of m bytes) a 0)) 
 
 one_more : (m : ℕ) (front back : List ℕ) → length front ≡ 8 * m → length back ≡ 8 → Below 256 back → WordsBack m front → WordsBack (suc m) (front ++ back)
 unfolding joined
-one_more m front back frontLong backLong b same =
-    let last = words_last m front back frontLong backLong in
+one_more m front back front_long back_long b same =
+    let last = words_last m front back front_long back_long in
     ap₂ ◌++◌
     (joined_same m (λ a. bytes_of 8 (get_or (words_of (suc m) (front ++ back)) a 0)) (λ a. bytes_of 8 (get_or (words_of m front) a 0)) (λ a l.
-    ap (bytes_of 8) (ap (λ ws. get_or ws a 0) last ∙ get_or-append (words_of m front) (number back ∷ []) 0 a (omega (arith, words-length m front))))
+    ap (bytes_of 8) (ap (λ ws. get_or ws a 0) last ∙ get_or-append (words_of m front) (number back ∷ []) 0 a (omega (arith, words_length m front))))
     ∙ same)
-    (ap (bytes_of 8) (ap (λ ws. get_or ws m 0) last ∙ get_or_at (words_of m front) (number back) [] 0 m (words-length m front))
-    ∙ ap (λ k. bytes_of k (number back)) (sym backLong)
-    ∙ bytes-of-number back b)
+    (ap (bytes_of 8) (ap (λ ws. get_or ws m 0) last ∙ get_or_at (words_of m front) (number back) [] 0 m (words_length m front))
+    ∙ ap (λ k. bytes_of k (number back)) (sym back_long)
+    ∙ bytes_of_number back b)
 
 pub words_back : (m : ℕ) (bytes : List ℕ) → length bytes ≡ 8 * m → Below 256 bytes → WordsBack m bytes
 unfolding joined
@@ -148,9 +148,9 @@ words_back zero [] e b = refl
 words_back zero (x ∷ bytes) e b = absurd (omega arith)
 words_back (suc m) bytes e b =
     let parts = take-append-drop (8 * m) bytes in
-    let frontLong : length (take (8 * m) bytes) ≡ 8 * m = length-take-le (8 * m) bytes (omega arith) in
+    let front_long : length (take (8 * m) bytes) ≡ 8 * m = length-take-le (8 * m) bytes (omega arith) in
     let bounded : Below 256 (take (8 * m) bytes ++ drop (8 * m) bytes) = rw parts b in
     subst (WordsBack (suc m)) parts
-    (one_more m (take (8 * m) bytes) (drop (8 * m) bytes) frontLong (omega (arith, length-drop (8 * m) bytes))
+    (one_more m (take (8 * m) bytes) (drop (8 * m) bytes) front_long (omega (arith, length-drop (8 * m) bytes))
     (below_right (take (8 * m) bytes) (drop (8 * m) bytes) bounded)
-    (words_back m (take (8 * m) bytes) frontLong (below_left (take (8 * m) bytes) (drop (8 * m) bytes) bounded)))
+    (words_back m (take (8 * m) bytes) front_long (below_left (take (8 * m) bytes) (drop (8 * m) bytes) bounded)))

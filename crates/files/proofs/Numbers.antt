@@ -10,19 +10,19 @@ use lib.Dec.{eqb}
 use lib.ListN.{length}
 use Rattle.problem.specs.Tables.{Tables, boats}
 use Rattle.problem.specs.Replies.{Told}
-use Rattle.problem.proofs.Lowest.{not-both}
+use Rattle.problem.proofs.Lowest.{not_both}
 use Rattle.tables.specs.Tests.{Test}
 use Rattle.tables.specs.Applies.{Gives, here, later}
-use Rattle.tables.specs.Examination.{wayBad, tests, fineTold, examination}
-use Rattle.tables.specs.Former.{ofPairs}
-use Rattle.tables.proofs.Former.{way-number}
-use Rattle.tables.proofs.Laws.{none-fine, gives-first, first_gives, large-gives, gives-before}
-use Rattle.questions.specs.Questions.{givenTests, someBroken, yesOrNo, lawfulQuestion}
-use Rattle.questions.proofs.Laws.{planTests}
+use Rattle.tables.specs.Examination.{first_way_bad, tests, fine_told, examination}
+use Rattle.tables.specs.Former.{of_pairs}
+use Rattle.tables.proofs.Former.{way_number}
+use Rattle.tables.proofs.Laws.{none_fine, gives_first, first_gives, large_gives, gives_before}
+use Rattle.questions.specs.Questions.{given_tests, some_broken, yes_or_no, lawful_question}
+use Rattle.questions.proofs.Laws.{plan_tests}
 use Rattle.files.specs.Promises.{OfFile}
 
-pairs-other : (number : ℕ) → ofPairs number ≡ true → 151 ≤ number
-pairs-other number e = by (eqb number 151) refl (eqb number 152) refl (eqb number 153) refl (eqb number 154) refl e
+pairs_other : (number : ℕ) → of_pairs number ≡ true → 151 ≤ number
+pairs_other number e = by (eqb number 151) refl (eqb number 152) refl (eqb number 153) refl (eqb number 154) refl e
   where
     by : (a : Bool) → eqb number 151 ≡ a → (b : Bool) → eqb number 152 ≡ b → (c : Bool) → eqb number 153 ≡ c → (d : Bool) → eqb number 154 ≡ d
         → (a || b || c || d) ≡ true → 151 ≤ number
@@ -30,51 +30,51 @@ pairs-other number e = by (eqb number 151) refl (eqb number 152) refl (eqb numbe
     by false p true q c r d s h = omega (arith, eqb-true number 152 q)
     by false p false q true r d s h = omega (arith, eqb-true number 153 r)
     by false p false q false r true s h = omega (arith, eqb-true number 154 s)
-    by false p false q false r false s h = absurd (not-both h refl)
+    by false p false q false r false s h = absurd (not_both h refl)
 
 -- no test gives nothing
-pub some-test : {ts : List Test} {w : Told} → Gives ts w → 0 < length ts
-some-test (here k l p f) = omega arith
-some-test (later f g) = omega arith
+pub some_test : {ts : List Test} {w : Told} → Gives ts w → 0 < length ts
+some_test (here k l p f) = omega arith
+some_test (later f g) = omega arith
 
 module _ (t : Tables) where
   -- what gives a number of the file comes after the examination
-  pub after-examination : {post : List Test} {w : Told} → Gives (tests t ++ post) w → OfFile w.number → Gives post w
-  after-examination (here k l p f) o = absurd (omega (arith, o.0))
-  after-examination (later a (here k l p f)) o = absurd (omega (arith, o.0))
-  after-examination (later a (later b (here k l p f))) o = absurd (omega (arith, o.0))
-  after-examination (later a (later b (later c (here k l p f)))) o =
-      absurd (omega (arith, o.1, pairs-other (100 + (wayBad (boats t) t.pairs k).number) (way-number (boats t) t.pairs k p)))
-  after-examination (later a (later b (later c (later d (here k l p f))))) o = absurd (omega (arith, o.0))
-  after-examination (later a (later b (later c (later d (later e (here k l p f)))))) o = absurd (omega (arith, o.0))
-  after-examination (later a (later b (later c (later d (later e (later f g)))))) o = g
+  pub after_examination : {post : List Test} {w : Told} → Gives (tests t ++ post) w → OfFile w.number → Gives post w
+  after_examination (here k l p f) o = absurd (omega (arith, o.0))
+  after_examination (later a (here k l p f)) o = absurd (omega (arith, o.0))
+  after_examination (later a (later b (here k l p f))) o = absurd (omega (arith, o.0))
+  after_examination (later a (later b (later c (here k l p f)))) o =
+      absurd (omega (arith, o.1, pairs_other (100 + (first_way_bad (boats t) t.pairs k).number) (way_number (boats t) t.pairs k p)))
+  after_examination (later a (later b (later c (later d (here k l p f))))) o = absurd (omega (arith, o.0))
+  after_examination (later a (later b (later c (later d (later e (here k l p f)))))) o = absurd (omega (arith, o.0))
+  after_examination (later a (later b (later c (later d (later e (later f g)))))) o = g
 
-  pub examination-other : OfFile (examination t).number → ⊥
+  pub examination_other : OfFile (examination t).number → ⊥
   unfolding examination
-  examination-other o =
-      ⊎_elim (λ n. omega (arith, o.0, ap (λ w. w.number) (none-fine (tests t) (fineTold t) n)))
-      (λ g. omega (arith, some-test (after-examination g o)))
-      (first_gives (tests t) (fineTold t))
+  examination_other o =
+      ⊎_elim (λ n. omega (arith, o.0, ap (λ w. w.number) (none_fine (tests t) (fine_told t) n)))
+      (λ g. omega (arith, some_test (after_examination g o)))
+      (first_gives (tests t) (fine_told t))
 
-  pub lawful-other : (given : List ℕ) → OfFile (lawfulQuestion t given).number → ⊥
-  unfolding lawfulQuestion
-  lawful-other given o =
+  pub lawful_other : (given : List ℕ) → OfFile (lawful_question t given).number → ⊥
+  unfolding lawful_question
+  lawful_other given o =
       ⊎_elim
-      (λ n. answered (someBroken t given) (omega (arith, o.0, ap (λ w. w.number) (none-fine (givenTests t given) (yesOrNo (someBroken t given)) n))))
-      (λ g. of-plan (after-examination g o) o)
-      (first_gives (givenTests t given) (yesOrNo (someBroken t given)))
+      (λ n. answered (some_broken t given) (omega (arith, o.0, ap (λ w. w.number) (none_fine (given_tests t given) (yes_or_no (some_broken t given)) n))))
+      (λ g. of_plan (after_examination g o) o)
+      (first_gives (given_tests t given) (yes_or_no (some_broken t given)))
     where
-      answered : (b : Bool) → 121 ≤ (yesOrNo b).number → ⊥
+      answered : (b : Bool) → 121 ≤ (yes_or_no b).number → ⊥
       answered true l = omega arith
       answered false l = omega arith
 
-      of-plan : {w : Told} → Gives (planTests t given) w → OfFile w.number → ⊥
-      of-plan (here k l p f) o = omega (arith, o.0)
-      of-plan (later a (here k l p f)) o = omega (arith, o.0)
+      of_plan : {w : Told} → Gives (plan_tests t given) w → OfFile w.number → ⊥
+      of_plan (here k l p f) o = omega (arith, o.0)
+      of_plan (later a (here k l p f)) o = omega (arith, o.0)
 
   -- where the examination refuses, the question about a plan says the same
-  pub refused-first : (given : List ℕ) → 100 ≤ (examination t).number → lawfulQuestion t given ≡ examination t
-  unfolding examination lawfulQuestion
-  refused-first given l =
-      gives-first (givenTests t given) (yesOrNo (someBroken t given)) (examination t)
-      (gives-before (tests t) (planTests t given) (examination t) (large-gives (tests t) (fineTold t) (omega arith) l))
+  pub refused_first : (given : List ℕ) → 100 ≤ (examination t).number → lawful_question t given ≡ examination t
+  unfolding examination lawful_question
+  refused_first given l =
+      gives_first (given_tests t given) (yes_or_no (some_broken t given)) (examination t)
+      (gives_before (tests t) (plan_tests t given) (examination t) (large_gives (tests t) (fine_told t) (omega arith) l))

@@ -10,173 +10,173 @@ use Rattle.problem.specs.Tables.{Tables, boats}
 use Rattle.problem.specs.Plans.{Lawful}
 use Rattle.problem.specs.Replies.{told, refused}
 use Rattle.tables.specs.Applies.{NoneApplies, none, nor}
-use Rattle.tables.specs.Examination.{fineTold, examination, Fine}
-use Rattle.tables.proofs.Laws.{small-none, none-is-fine}
-use Rattle.tables.proofs.Fine.{fine-sane, fine-told}
-use Rattle.questions.specs.Questions.{givenTests, someBroken, yesOrNo, lawfulQuestion}
-use Rattle.questions.proofs.Laws.{lawful-yes, yes-lawful}
+use Rattle.tables.specs.Examination.{fine_told, examination, Fine}
+use Rattle.tables.proofs.Laws.{small_none, none_is_fine}
+use Rattle.tables.proofs.Fine.{fine_sane, fine_told_lem}
+use Rattle.questions.specs.Questions.{given_tests, some_broken, yes_or_no, lawful_question}
+use Rattle.questions.proofs.Laws.{lawful_yes, yes_lawful}
 use Rattle.files.specs.Bytes.{Below}
-use Rattle.files.specs.File.{fileOf}
+use Rattle.files.specs.File.{file_of}
 use Rattle.files.specs.Reading.{fault, read, reading}
 use Rattle.files.specs.Limits.{Whole}
-use Rattle.files.specs.Rooms.{Rooms, tooShort, tooSmall, covering}
-use Rattle.files.specs.Reader.{refusedResult, standingResult, result_of, readResult, deskResult}
-use Rattle.files.specs.Writer.{writeAnswer, writtenRoom}
+use Rattle.files.specs.Rooms.{Rooms, too_short, too_small, covering}
+use Rattle.files.specs.Reader.{refused_result, standing_result, result_of, read_result, desk_result}
+use Rattle.files.specs.Writer.{write_answer, written_room}
 use Rattle.files.specs.Promises.{OfFile, Untouched, SameLengths, TooSmall, Stands, FineFile, LawfulByFile, Left, RoomShort}
-use Rattle.files.proofs.Written.{read-written}
-use Rattle.files.proofs.OneFile.{one-file}
-use Rattle.files.proofs.Limits.{sane-whole, sane-small, file-bytes}
-use Rattle.files.proofs.Lengths.{rows_few, file-few}
-use Rattle.files.proofs.Numbers.{examination-other, lawful-other, refused-first}
-use Rattle.files.proofs.Reader.{small-26, read-stands, of-file-untouched, refused-fault, 26-small, other-stands, lengths-kept, refused-alike, as-asked}
-use Rattle.files.proofs.Writer.{write-small, write-whole, zero-written, 26-short}
+use Rattle.files.proofs.Written.{read_written}
+use Rattle.files.proofs.OneFile.{one_file}
+use Rattle.files.proofs.Limits.{sane_whole, sane_small, file_bytes}
+use Rattle.files.proofs.Lengths.{rows_few, file_few}
+use Rattle.files.proofs.Numbers.{examination_other, lawful_other, refused_first}
+use Rattle.files.proofs.Reader.{small_26, read_stands, of_file_untouched, refused_fault, small_for_26, other_stands, lengths_kept, refused_alike, as_asked}
+use Rattle.files.proofs.Writer.{write_small, write_whole, zero_written, short_of_26}
 
 -- ---- the file and what it means
 -- tables that pass the examination have a file of bytes, and reading it gives the same tables
-pub fine-written : (t : Tables) → Fine t → Below 256 (fileOf t) × (reading (fileOf t) ≡ read t)
-fine-written t f =
-    let s = fine-sane t f in
-    (file-bytes t (sane-whole t s) (sane-small t s), read-written t (sane-whole t s))
+pub fine_written : (t : Tables) → Fine t → Below 256 (file_of t) × (reading (file_of t) ≡ read t)
+fine_written t f =
+    let s = fine_sane t f in
+    (file_bytes t (sane_whole t s) (sane_small t s), read_written t (sane_whole t s))
 
 -- what is enough for every file whose tables pass the examination: 64 bytes, 4,032 bytes, 129,024 words, and 1,040,327 bytes for the file
-pub fine-few : (t : Tables) → Fine t → (boats t ≤ 64) × (length t.pairs ≤ 4032) × (length t.rows ≤ 129024) × (length (fileOf t) ≤ 1040327)
-fine-few t f =
-    let s = fine-sane t f in
-    (s.fewBoats, omega (arith, s.twoBytes, s.fewPairs), rows_few t s, file-few t s)
+pub fine_few : (t : Tables) → Fine t → (boats t ≤ 64) × (length t.pairs ≤ 4032) × (length t.rows ≤ 129024) × (length (file_of t) ≤ 1040327)
+fine_few t f =
+    let s = fine_sane t f in
+    (s.few_boats, omega (arith, s.two_bytes, s.few_pairs), rows_few t s, file_few t s)
 
 -- one problem, one file: bytes that are read are the file of what was read
-pub one-problem-one-file : (file : List ℕ) (t : Tables) → Below 256 file → reading file ≡ read t → fileOf t ≡ file
-one-problem-one-file file t small e = (one-file file t small e).1
+pub one_problem_one_file : (file : List ℕ) (t : Tables) → Below 256 file → reading file ≡ read t → file_of t ≡ file
+one_problem_one_file file t small e = (one_file file t small e).1
 
 -- so the files that are read are exactly those that are written for tables which a file can carry
-pub read-exactly : (file : List ℕ) (t : Tables) → Below 256 file → (reading file ≡ read t) ↔ (Whole t × (fileOf t ≡ file))
-read-exactly file t small = (one-file file t small, λ w. ap reading (sym w.1) ∙ read-written t w.0)
+pub read_exactly : (file : List ℕ) (t : Tables) → Below 256 file → (reading file ≡ read t) ↔ (Whole t × (file_of t ≡ file))
+read_exactly file t small = (one_file file t small, λ w. ap reading (sym w.1) ∙ read_written t w.0)
 
 -- ---- the reader
 module _ (file : List ℕ) (m : Rooms) where
   -- 21 to 25: the first fault in the bytes, and nothing is written
-  pub read-refuses-fault : (number place after : ℕ) → reading file ≡ fault number place after → readResult file m ≡ refusedResult number place m
-  unfolding readResult
-  read-refuses-fault number place after e = ap (λ r. result_of examination r m) e
+  pub read_refuses_fault : (number place after : ℕ) → reading file ≡ fault number place after → read_result file m ≡ refused_result number place m
+  unfolding read_result
+  read_refuses_fault number place after e = ap (λ r. result_of examination r m) e
 
   -- and such a refusal is said of no other bytes
-  pub read-refused-has-fault : (number place : ℕ) → number ≤ 25 → 21 ≤ number → (readResult file m).answer ≡ refused number place
+  pub read_refused_has_fault : (number place : ℕ) → number ≤ 25 → 21 ≤ number → (read_result file m).answer ≡ refused number place
       → (after : ℕ) × (reading file ≡ fault number place after)
-  unfolding readResult
-  read-refused-has-fault = refused-fault examination file m examination-other
+  unfolding read_result
+  read_refused_has_fault = refused_fault examination file m examination_other
 
   -- 26 exactly where the file is read and a part of the lent memory is too short; its place is 0, and nothing is written
-  pub read-26-exactly : ((readResult file m).answer.number ≡ 126) ↔ TooSmall file m
-  unfolding readResult
-  read-26-exactly = (26-small examination file m examination-other, λ s. ap (λ r. r.answer.number) (small-26 examination file m s))
+  pub read_26_exactly : ((read_result file m).answer.number ≡ 126) ↔ TooSmall file m
+  unfolding read_result
+  read_26_exactly = (small_for_26 examination file m examination_other, λ s. ap (λ r. r.answer.number) (small_26 examination file m s))
 
-  pub read-refuses-small : TooSmall file m → readResult file m ≡ refusedResult 26 0 m
-  unfolding readResult
-  read-refuses-small = small-26 examination file m
+  pub read_refuses_small : TooSmall file m → read_result file m ≡ refused_result 26 0 m
+  unfolding read_result
+  read_refuses_small = small_26 examination file m
 
   -- 21 to 26 write nothing
-  pub read-refused-untouched : OfFile (readResult file m).answer.number → Untouched m (readResult file m)
-  unfolding readResult
-  read-refused-untouched = of-file-untouched examination file m examination-other
+  pub read_refused_untouched : OfFile (read_result file m).answer.number → Untouched m (read_result file m)
+  unfolding read_result
+  read_refused_untouched = of_file_untouched examination file m examination_other
 
   -- all else leaves the tables standing, with the lengths written: fine, and every refusal of the examination
-  pub read-leaves-standing : (OfFile (readResult file m).answer.number → ⊥) → Stands examination file m (readResult file m)
-  unfolding readResult
-  read-leaves-standing = other-stands examination file m
+  pub read_leaves_standing : (OfFile (read_result file m).answer.number → ⊥) → Stands examination file m (read_result file m)
+  unfolding read_result
+  read_leaves_standing = other_stands examination file m
 
   -- the lent parts keep their lengths
-  pub read-keeps-lengths : SameLengths m (readResult file m)
-  unfolding readResult
-  read-keeps-lengths = lengths-kept examination (reading file) m
+  pub read_keeps_lengths : SameLengths m (read_result file m)
+  unfolding read_result
+  read_keeps_lengths = lengths_kept examination (reading file) m
 
   -- fine is said of the files that are written for tables which pass the examination, and of no other
-  pub read-fine-is-file : Below 256 file → (readResult file m).answer.number ≡ 0 → FineFile file m
-  read-fine-is-file small e =
-      let s = read-leaves-standing (λ o. omega (arith, e, o.0)) in
+  pub read_fine_is_file : Below 256 file → (read_result file m).answer.number ≡ 0 → FineFile file m
+  read_fine_is_file small e =
+      let s = read_leaves_standing (λ o. omega (arith, e, o.0)) in
       record {
         t = s.t;
         fine = sym (ap (λ r. r.answer.number) s.is) ∙ e;
-        isFile = one-problem-one-file file s.t small s.isRead;
+        is_file = one_problem_one_file file s.t small s.is_read;
         is = s.is;
       }
 
 -- what the writer wrote is read back, and is fine
-pub file-read-fine : (t : Tables) (m : Rooms) → Fine t → tooSmall m t ≡ false
-    → (readResult (fileOf t) m ≡ standingResult examination t m) × ((readResult (fileOf t) m).answer ≡ fineTold t)
-unfolding readResult
-file-read-fine t m f e =
-    let is = read-stands examination (fileOf t) m t (fine-written t f).1 e in
-    (is, ap (λ r. r.answer) is ∙ fine-told t f)
+pub file_read_fine : (t : Tables) (m : Rooms) → Fine t → too_small m t ≡ false
+    → (read_result (file_of t) m ≡ standing_result examination t m) × ((read_result (file_of t) m).answer ≡ fine_told t)
+unfolding read_result
+file_read_fine t m f e =
+    let is = read_stands examination (file_of t) m t (fine_written t f).1 e in
+    (is, ap (λ r. r.answer) is ∙ fine_told_lem t f)
 
 -- ---- the writer
 -- where it says 0 and a length, so many bytes of the memory are a file, and reading that gives the tables
-pub write-then-read : (t : Tables) (room : List ℕ) (n : ℕ) → writeAnswer t room ≡ told 0 (n ∷ [])
-    → Fine t × (reading (take n (writtenRoom t room)) ≡ read t)
-write-then-read t room n e =
-    let w = zero-written t room (ap (λ x. x.number) e) in
-    let long : n ≡ length (fileOf t) = ap (λ x. get_or x.values 0 0) (sym e ∙ w.left.says) in
-    (w.fine, ap (λ k. reading (take k (writtenRoom t room))) long ∙ ap reading w.first ∙ (fine-written t w.fine).1)
+pub write_then_read : (t : Tables) (room : List ℕ) (n : ℕ) → write_answer t room ≡ told 0 (n ∷ [])
+    → Fine t × (reading (take n (written_room t room)) ≡ read t)
+write_then_read t room n e =
+    let w = zero_written t room (ap (λ x. x.number) e) in
+    let long : n ≡ length (file_of t) = ap (λ x. get_or x.values 0 0) (sym e ∙ w.left.says) in
+    (w.fine, ap (λ k. reading (take k (written_room t room))) long ∙ ap reading w.first ∙ (fine_written t w.fine).1)
 
 -- what was read and is fine is written as the bytes that it was read from
-pub read-then-write : (file : List ℕ) (m : Rooms) (f : FineFile file m) (room : List ℕ) → tooShort room file ≡ false
-    → (writeAnswer f.t room ≡ told 0 (length file ∷ [])) × (writtenRoom f.t room ≡ covering file room)
-read-then-write file m f room e =
-    let w = write-whole f.t room f.fine (ap (tooShort room) f.isFile ∙ e) in
-    (w.says ∙ ap (λ l. told 0 (length l ∷ [])) f.isFile, w.leaves ∙ ap (λ l. covering l room) f.isFile)
+pub read_then_write : (file : List ℕ) (m : Rooms) (f : FineFile file m) (room : List ℕ) → too_short room file ≡ false
+    → (write_answer f.t room ≡ told 0 (length file ∷ [])) × (written_room f.t room ≡ covering file room)
+read_then_write file m f room e =
+    let w = write_whole f.t room f.fine (ap (too_short room) f.is_file ∙ e) in
+    (w.says ∙ ap (λ l. told 0 (length l ∷ [])) f.is_file, w.leaves ∙ ap (λ l. covering l room) f.is_file)
 
 -- 26 exactly where the tables pass the examination and the memory is shorter than their file; its place is 0, and nothing is written
-pub write-26-exactly : (t : Tables) (room : List ℕ) → ((writeAnswer t room).number ≡ 126) ↔ RoomShort t room
-write-26-exactly t room = (26-short t room, λ s. ap (λ w. w.number) (write-small t room s.fine s.short).says)
+pub write_26_exactly : (t : Tables) (room : List ℕ) → ((write_answer t room).number ≡ 126) ↔ RoomShort t room
+write_26_exactly t room = (short_of_26 t room, λ s. ap (λ w. w.number) (write_small t room s.fine s.short).says)
 
-pub write-refuses-small : (t : Tables) (room : List ℕ) → RoomShort t room → Left t room (refused 26 0) room
-write-refuses-small t room s = write-small t room s.fine s.short
+pub write_refuses_small : (t : Tables) (room : List ℕ) → RoomShort t room → Left t room (refused 26 0) room
+write_refuses_small t room s = write_small t room s.fine s.short
 
 -- ---- the desk's question
 module _ (file given : List ℕ) (m : Rooms) where
-  yes-fine : (t : Tables) → lawfulQuestion t given ≡ told 0 [] → Fine t
-  unfolding lawfulQuestion
-  yes-fine t e =
-      examined (small-none (givenTests t given) (yesOrNo (someBroken t given)) (omega (arith, ap (λ w. w.number) e)))
+  yes_fine : (t : Tables) → lawful_question t given ≡ told 0 [] → Fine t
+  unfolding lawful_question
+  yes_fine t e =
+      examined (small_none (given_tests t given) (yes_or_no (some_broken t given)) (omega (arith, ap (λ w. w.number) e)))
     where
-      examined : NoneApplies (givenTests t given) → Fine t
-      examined (nor a (nor b (nor c (nor d (nor g (nor h rest)))))) = none-is-fine t (nor a (nor b (nor c (nor d (nor g (nor h none))))))
+      examined : NoneApplies (given_tests t given) → Fine t
+      examined (nor a (nor b (nor c (nor d (nor g (nor h rest)))))) = none_is_fine t (nor a (nor b (nor c (nor d (nor g (nor h none))))))
 
   -- 0 is said exactly there
-  pub desk-yes-exactly : ((deskResult file given m).answer ≡ told 0 []) ↔ LawfulByFile file given m
-  unfolding deskResult
-  desk-yes-exactly = (there, back)
+  pub desk_yes_exactly : ((desk_result file given m).answer ≡ told 0 []) ↔ LawfulByFile file given m
+  unfolding desk_result
+  desk_yes_exactly = (there, back)
     where
-      there : (deskResult file given m).answer ≡ told 0 [] → LawfulByFile file given m
+      there : (desk_result file given m).answer ≡ told 0 [] → LawfulByFile file given m
       there e =
-          let s = other-stands (λ t. lawfulQuestion t given) file m (λ o. omega (arith, ap (λ w. w.number) e, o.0)) in
-          let yes : lawfulQuestion s.t given ≡ told 0 [] = sym (ap (λ r. r.answer) s.is) ∙ e in
-          record { t = s.t; isRead = s.isRead; enough = s.enough; fine = yes-fine s.t yes; lawful = lawful-yes s.t given yes }
+          let s = other_stands (λ t. lawful_question t given) file m (λ o. omega (arith, ap (λ w. w.number) e, o.0)) in
+          let yes : lawful_question s.t given ≡ told 0 [] = sym (ap (λ r. r.answer) s.is) ∙ e in
+          record { t = s.t; is_read = s.is_read; enough = s.enough; fine = yes_fine s.t yes; lawful = lawful_yes s.t given yes }
 
-      back : LawfulByFile file given m → (deskResult file given m).answer ≡ told 0 []
+      back : LawfulByFile file given m → (desk_result file given m).answer ≡ told 0 []
       back l =
-          ap (λ r. r.answer) (read-stands (λ t. lawfulQuestion t given) file m l.t l.isRead l.enough)
-          ∙ yes-lawful l.t given l.fine l.lawful
+          ap (λ r. r.answer) (read_stands (λ t. lawful_question t given) file m l.t l.is_read l.enough)
+          ∙ yes_lawful l.t given l.fine l.lawful
 
-  pub desk-26-exactly : ((deskResult file given m).answer.number ≡ 126) ↔ TooSmall file m
-  unfolding deskResult
-  desk-26-exactly =
-      (26-small (λ t. lawfulQuestion t given) file m (λ t. lawful-other t given), λ s. ap (λ r. r.answer.number) (small-26 (λ t. lawfulQuestion t given) file m s))
+  pub desk_26_exactly : ((desk_result file given m).answer.number ≡ 126) ↔ TooSmall file m
+  unfolding desk_result
+  desk_26_exactly =
+      (small_for_26 (λ t. lawful_question t given) file m (λ t. lawful_other t given), λ s. ap (λ r. r.answer.number) (small_26 (λ t. lawful_question t given) file m s))
 
   -- where the reader refuses, the desk is told the same
-  pub desk-refuses-as-reader : 100 ≤ (readResult file m).answer.number → (deskResult file given m).answer ≡ (readResult file m).answer
-  unfolding deskResult readResult
-  desk-refuses-as-reader = refused-alike (λ t. lawfulQuestion t given) examination (λ t. refused-first t given) (reading file) m
+  pub desk_refuses_as_reader : 100 ≤ (read_result file m).answer.number → (desk_result file given m).answer ≡ (read_result file m).answer
+  unfolding desk_result read_result
+  desk_refuses_as_reader = refused_alike (λ t. lawful_question t given) examination (λ t. refused_first t given) (reading file) m
 
-  pub desk-refused-untouched : OfFile (deskResult file given m).answer.number → Untouched m (deskResult file given m)
-  unfolding deskResult
-  desk-refused-untouched = of-file-untouched (λ t. lawfulQuestion t given) file m (λ t. lawful-other t given)
+  pub desk_refused_untouched : OfFile (desk_result file given m).answer.number → Untouched m (desk_result file given m)
+  unfolding desk_result
+  desk_refused_untouched = of_file_untouched (λ t. lawful_question t given) file m (λ t. lawful_other t given)
 
   -- yes, no, and every refusal of the examination or of the plan leave the tables standing
-  pub desk-leaves-standing : (OfFile (deskResult file given m).answer.number → ⊥) → Stands (λ t. lawfulQuestion t given) file m (deskResult file given m)
-  unfolding deskResult
-  desk-leaves-standing = other-stands (λ t. lawfulQuestion t given) file m
+  pub desk_leaves_standing : (OfFile (desk_result file given m).answer.number → ⊥) → Stands (λ t. lawful_question t given) file m (desk_result file given m)
+  unfolding desk_result
+  desk_leaves_standing = other_stands (λ t. lawful_question t given) file m
 
   -- the memory is left as the reader leaves it
-  pub desk-as-reader : (deskResult file given m).rooms ≡ (readResult file m).rooms
-  unfolding deskResult readResult
-  desk-as-reader = as-asked (λ t. lawfulQuestion t given) examination (reading file) m
+  pub desk_as_reader : (desk_result file given m).rooms ≡ (read_result file m).rooms
+  unfolding desk_result read_result
+  desk_as_reader = as_asked (λ t. lawful_question t given) examination (reading file) m

@@ -14,69 +14,69 @@ use Rattle.problem.specs.Replies.{Told, told, refused}
 use Rattle.tables.specs.Tests.{Test, once, first_of}
 use Rattle.tables.specs.Applies.{NoneApplies, none, nor, Gives, here}
 use Rattle.tables.specs.Examination.{tests, Fine}
-use Rattle.tables.proofs.Laws.{none-fine, gives-first, first_gives, gives-refused, gives-before, after_none, fine-none, none-is-fine}
-use Rattle.files.specs.File.{fileOf}
-use Rattle.files.specs.Rooms.{tooShort, covering}
-use Rattle.files.specs.Writer.{writeTests, writeAnswer, fileOr, writtenRoom}
+use Rattle.tables.proofs.Laws.{none_fine, gives_first, first_gives, gives_refused, gives_before, after_none, fine_none, none_is_fine}
+use Rattle.files.specs.File.{file_of}
+use Rattle.files.specs.Rooms.{too_short, covering}
+use Rattle.files.specs.Writer.{write_tests, write_answer, file_or, written_room}
 use Rattle.files.specs.Promises.{Left, RoomShort, FileWritten}
-use Rattle.files.proofs.Numbers.{some-test, after-examination}
+use Rattle.files.proofs.Numbers.{some_test, after_examination}
 
 module _ (t : Tables) (room : List ℕ) where
-  refusing : (w : Told) → 100 ≤ w.number → writeAnswer t room ≡ w → Left t room w room
-  unfolding writtenRoom
-  refusing w l e = record { says = e; leaves = ap (λ b. fileOr b t room) (ap (λ x. eqb x.number 0) e ∙ ne_eqb w.number 0 (omega arith)) }
+  refusing : (w : Told) → 100 ≤ w.number → write_answer t room ≡ w → Left t room w room
+  unfolding written_room
+  refusing w l e = record { says = e; leaves = ap (λ b. file_or b t room) (ap (λ x. eqb x.number 0) e ∙ ne_eqb w.number 0 (omega arith)) }
 
   -- the examination's refusal
-  pub write-examined : (w : Told) → Gives (tests t) w → Left t room w room
-  unfolding writeAnswer
-  write-examined w g = refusing w (gives-refused (tests t) w g) (gives-first (writeTests t room) _ w (gives-before (tests t) _ w g))
+  pub write_examined : (w : Told) → Gives (tests t) w → Left t room w room
+  unfolding write_answer
+  write_examined w g = refusing w (gives_refused (tests t) w g) (gives_first (write_tests t room) _ w (gives_before (tests t) _ w g))
 
   module _ (f : Fine t) where
-    last : writeAnswer t room ≡ first_of (once 26 (tooShort room (fileOf t)) ∷ []) (told 0 (length (fileOf t) ∷ []))
-    unfolding writeAnswer
-    last = after_none (tests t) (once 26 (tooShort room (fileOf t)) ∷ []) _ (fine-none t f)
+    last : write_answer t room ≡ first_of (once 26 (too_short room (file_of t)) ∷ []) (told 0 (length (file_of t) ∷ []))
+    unfolding write_answer
+    last = after_none (tests t) (once 26 (too_short room (file_of t)) ∷ []) _ (fine_none t f)
 
     -- 26
-    pub write-small : tooShort room (fileOf t) ≡ true → Left t room (refused 26 0) room
-    write-small e = refusing (refused 26 0) (omega arith) (last ∙ gives-first (once 26 (tooShort room (fileOf t)) ∷ []) _ (refused 26 0) (here 0 (omega arith) e (λ j l. absurd (omega arith))))
+    pub write_small : too_short room (file_of t) ≡ true → Left t room (refused 26 0) room
+    write_small e = refusing (refused 26 0) (omega arith) (last ∙ gives_first (once 26 (too_short room (file_of t)) ∷ []) _ (refused 26 0) (here 0 (omega arith) e (λ j l. absurd (omega arith))))
 
     -- the file
-    pub write-whole : tooShort room (fileOf t) ≡ false → Left t room (told 0 (length (fileOf t) ∷ [])) (covering (fileOf t) room)
-    unfolding writtenRoom
-    write-whole e =
-        let said : writeAnswer t room ≡ told 0 (length (fileOf t) ∷ []) = last ∙ none-fine (once 26 (tooShort room (fileOf t)) ∷ []) _ (nor (λ k l. e) none) in
-        record { says = said; leaves = ap (λ b. fileOr b t room) (ap (λ x. eqb x.number 0) said) }
+    pub write_whole : too_short room (file_of t) ≡ false → Left t room (told 0 (length (file_of t) ∷ [])) (covering (file_of t) room)
+    unfolding written_room
+    write_whole e =
+        let said : write_answer t room ≡ told 0 (length (file_of t) ∷ []) = last ∙ none_fine (once 26 (too_short room (file_of t)) ∷ []) _ (nor (λ k l. e) none) in
+        record { says = said; leaves = ap (λ b. file_or b t room) (ap (λ x. eqb x.number 0) said) }
 
   -- a refusal leaves the memory as it was
-  pub write-refused : 100 ≤ (writeAnswer t room).number → writtenRoom t room ≡ room
-  write-refused l = (refusing (writeAnswer t room) l refl).leaves
+  pub write_refused : 100 ≤ (write_answer t room).number → written_room t room ≡ room
+  write_refused l = (refusing (write_answer t room) l refl).leaves
 
-  pub zero-written : (writeAnswer t room).number ≡ 0 → FileWritten t room
-  zero-written e = ⊎_elim fine refused-first (first_gives (tests t) (told 0 []))
+  pub zero_written : (write_answer t room).number ≡ 0 → FileWritten t room
+  zero_written e = ⊎_elim fine refused_first (first_gives (tests t) (told 0 []))
     where
-      refused-first : Gives (tests t) (first_of (tests t) (told 0 [])) → FileWritten t room
-      refused-first g = absurd (omega (arith, e, gives-refused (tests t) _ g, ap (λ w. w.number) (write-examined _ g).says))
+      refused_first : Gives (tests t) (first_of (tests t) (told 0 [])) → FileWritten t room
+      refused_first g = absurd (omega (arith, e, gives_refused (tests t) _ g, ap (λ w. w.number) (write_examined _ g).says))
 
-      enough : Fine t → (b : Bool) → tooShort room (fileOf t) ≡ b → FileWritten t room
-      enough f true q = absurd (omega (arith, e, ap (λ w. w.number) (write-small f q).says))
+      enough : Fine t → (b : Bool) → too_short room (file_of t) ≡ b → FileWritten t room
+      enough f true q = absurd (omega (arith, e, ap (λ w. w.number) (write_small f q).says))
       enough f false q =
-          let w = write-whole f q in
-          record { fine = f; enough = q; left = w; first = ap (take (length (fileOf t))) w.leaves ∙ take_at (fileOf t) (drop (length (fileOf t)) room) (length (fileOf t)) refl }
+          let w = write_whole f q in
+          record { fine = f; enough = q; left = w; first = ap (take (length (file_of t))) w.leaves ∙ take_at (file_of t) (drop (length (file_of t)) room) (length (file_of t)) refl }
 
       fine : NoneApplies (tests t) → FileWritten t room
-      fine n = enough (none-is-fine t n) (tooShort room (fileOf t)) refl
+      fine n = enough (none_is_fine t n) (too_short room (file_of t)) refl
 
-  pub 26-short : (writeAnswer t room).number ≡ 126 → RoomShort t room
-  26-short e = ⊎_elim fine refused-first (first_gives (tests t) (told 0 []))
+  pub short_of_26 : (write_answer t room).number ≡ 126 → RoomShort t room
+  short_of_26 e = ⊎_elim fine refused_first (first_gives (tests t) (told 0 []))
     where
-      refused-first : Gives (tests t) (first_of (tests t) (told 0 [])) → RoomShort t room
-      refused-first g =
-          let said = ap (λ w. w.number) (write-examined _ g).says in
-          absurd (omega (arith, some-test (after-examination t g (omega (arith, e, said)))))
+      refused_first : Gives (tests t) (first_of (tests t) (told 0 [])) → RoomShort t room
+      refused_first g =
+          let said = ap (λ w. w.number) (write_examined _ g).says in
+          absurd (omega (arith, some_test (after_examination t g (omega (arith, e, said)))))
 
-      enough : Fine t → (b : Bool) → tooShort room (fileOf t) ≡ b → RoomShort t room
+      enough : Fine t → (b : Bool) → too_short room (file_of t) ≡ b → RoomShort t room
       enough f true q = record { fine = f; short = q }
-      enough f false q = absurd (omega (arith, e, ap (λ w. w.number) (write-whole f q).says))
+      enough f false q = absurd (omega (arith, e, ap (λ w. w.number) (write_whole f q).says))
 
       fine : NoneApplies (tests t) → RoomShort t room
-      fine n = enough (none-is-fine t n) (tooShort room (fileOf t)) refl
+      fine n = enough (none_is_fine t n) (too_short room (file_of t)) refl

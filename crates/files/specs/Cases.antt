@@ -1,51 +1,51 @@
 -- Files worked out by hand, and what the definitions say of them. (Document 02, No. 2.)
 use Rattle.std.specs.Prelude.{◌≡◌, refl, List, [], ◌∷◌, ◌++◌, map, ℕ}
-use Rattle.problem.specs.Lowest.{lowestFrom, lowest, sum}
+use Rattle.problem.specs.Lowest.{lowest_from, lowest, sum}
 use Rattle.problem.specs.Tables.{Tables, tables, start}
 use Rattle.problem.specs.Replies.{Told, told, refused}
 use Rattle.tables.specs.Tests.{first_of}
-use Rattle.tables.specs.Examination.{wayBad, badWord, pairOfWord, examination}
-use Rattle.questions.specs.Questions.{broken, lawfulQuestion}
+use Rattle.tables.specs.Examination.{first_way_bad, bad_word, pair_of_word, examination}
+use Rattle.questions.specs.Questions.{broken, lawful_question}
 use Rattle.files.specs.Bytes.{bytes_of, number, words_of, joined}
-use Rattle.files.specs.File.{SZ, PR, ED, sizesRecord, pairRecord, endRecord, fileOf}
-use Rattle.files.specs.Reading.{Reading, fault, read, sizesRest, wordsRest, pairRest, endRest, same, afterMark, readRest, readRecords, readFrom, reading, nothing}
+use Rattle.files.specs.File.{SZ, PR, ED, sizes_record, pair_record, end_record, file_of}
+use Rattle.files.specs.Reading.{Reading, fault, read, sizes_rest, words_rest, pair_rest, end_rest, same, after_mark, read_rest, read_records, read_from, reading, nothing}
 use Rattle.files.specs.Rooms.{Rooms, rooms}
-use Rattle.files.specs.Reader.{Result, readResult, deskResult}
+use Rattle.files.specs.Reader.{Result, read_result, desk_result}
 
 -- what is written, and what is read. (To unfold these is to unfold all that their lines name)
 unfoldable pub written : Tables → List ℕ
-unfolding fileOf sizesRecord pairRecord endRecord joined bytes_of start sum
-written t = fileOf t
+unfolding file_of sizes_record pair_record end_record joined bytes_of start sum
+written t = file_of t
 
 unfoldable pub means : List ℕ → Reading
-unfolding reading readFrom readRecords readRest afterMark same sizesRest wordsRest pairRest endRest number words_of
+unfolding reading read_from read_records read_rest after_mark same sizes_rest words_rest pair_rest end_rest number words_of
 means file = reading file
 
 -- ---- the document's file: two boats of size 1, their pair listed and allowed
 abbrev pub two : Tables
 two = tables (1 ∷ 1 ∷ []) (0 ∷ 1 ∷ []) (1 ∷ [])
 
-abbrev pub twoFile : List ℕ
-twoFile =
+abbrev pub two_file : List ℕ
+two_file =
     0x53 ∷ 0x5A ∷ 0x02 ∷ 0x01 ∷ 0x01
     ∷ 0x50 ∷ 0x52 ∷ 0x00 ∷ 0x01 ∷ 0x01 ∷ 0x00 ∷ 0x00 ∷ 0x00 ∷ 0x00 ∷ 0x00 ∷ 0x00 ∷ 0x00
     ∷ 0x45 ∷ 0x44 ∷ 0x01 ∷ 0x00 ∷ []
 
-pub two-written : written two ≡ twoFile
+pub two_written : written two ≡ two_file
 unfolding written
-two-written = refl
+two_written = refl
 
-pub two-read : means twoFile ≡ read two
+pub two_read : means two_file ≡ read two
 unfolding means
-two-read = refl
+two_read = refl
 
 -- two slots below one: a word for each slot of the lower boat
 abbrev pub wide : Tables
 wide = tables (2 ∷ 1 ∷ []) (0 ∷ 1 ∷ []) (1 ∷ 0x0302 ∷ [])
 
-pub wide-written : written wide ≡ SZ ++ (2 ∷ 2 ∷ 1 ∷ (PR ++ (0 ∷ 1 ∷ 1 ∷ 0 ∷ 0 ∷ 0 ∷ 0 ∷ 0 ∷ 0 ∷ 0 ∷ 2 ∷ 3 ∷ 0 ∷ 0 ∷ 0 ∷ 0 ∷ 0 ∷ 0 ∷ (ED ++ (1 ∷ 0 ∷ [])))))
+pub wide_written : written wide ≡ SZ ++ (2 ∷ 2 ∷ 1 ∷ (PR ++ (0 ∷ 1 ∷ 1 ∷ 0 ∷ 0 ∷ 0 ∷ 0 ∷ 0 ∷ 0 ∷ 0 ∷ 2 ∷ 3 ∷ 0 ∷ 0 ∷ 0 ∷ 0 ∷ 0 ∷ 0 ∷ (ED ++ (1 ∷ 0 ∷ [])))))
 unfolding written
-wide-written = refl
+wide_written = refl
 
 -- ---- a file, and what is to come of it
 pub record Case : Type 0 where
@@ -65,8 +65,8 @@ pair_of lower higher low = PR ++ (lower ∷ higher ∷ low ∷ 0 ∷ 0 ∷ 0 ∷
 abbrev pub end_of : (low high : ℕ) → List ℕ
 end_of low high = ED ++ (low ∷ high ∷ [])
 
-unfoldable pub fileCases : List Case
-fileCases =
+unfoldable pub file_cases : List Case
+file_cases =
     -- 22: no byte, half a mark, a mark alone, a boat short of its sizes, no ED, a PR cut before and inside its words, a count cut although it is wrong
     case [] (fault 22 0 0)
     ∷ case (0x58 ∷ []) (fault 22 1 1)
@@ -89,8 +89,8 @@ fileCases =
     ∷ case (sizes2 ++ (pair_of 0 1 1 ++ end_of 2 0)) (fault 24 19 21)
     ∷ case (sizes2 ++ (pair_of 0 1 1 ++ (end_of 0 1 ++ (0 ∷ [])))) (fault 24 19 21)
     -- 25: bytes after ED, a PR too
-    ∷ case (twoFile ++ (0 ∷ [])) (fault 25 21 22)
-    ∷ case (twoFile ++ pair_of 0 1 1) (fault 25 21 22)
+    ∷ case (two_file ++ (0 ∷ [])) (fault 25 21 22)
+    ∷ case (two_file ++ pair_of 0 1 1) (fault 25 21 22)
     -- read: a word for each slot of the lower boat, low byte first, whatever the higher boat's size is
     ∷ case (SZ ++ (2 ∷ 2 ∷ 1 ∷ (pair_of 0 1 1 ++ (2 ∷ 3 ∷ 0 ∷ 0 ∷ 0 ∷ 0 ∷ 0 ∷ 4 ∷ end_of 1 0)))) (read (tables (2 ∷ 1 ∷ []) (0 ∷ 1 ∷ []) (1 ∷ 0x0400000000000302 ∷ [])))
     ∷ case (SZ ++ (2 ∷ 1 ∷ 2 ∷ (pair_of 0 1 1 ++ end_of 1 0))) (read (tables (1 ∷ 2 ∷ []) (0 ∷ 1 ∷ []) (1 ∷ [])))
@@ -101,9 +101,9 @@ fileCases =
     ∷ case (sizes2 ++ (pair_of 0 1 2 ++ (pair_of 0 1 2 ++ end_of 2 0))) (read (tables (1 ∷ 1 ∷ []) (0 ∷ 1 ∷ 0 ∷ 1 ∷ []) (2 ∷ 2 ∷ [])))
     ∷ []
 
-pub files-mean : map (λ c. means c.file) fileCases ≡ map (λ c. c.expected) fileCases
-unfolding means fileCases
-files-mean = refl
+pub files_mean : map (λ c. means c.file) file_cases ≡ map (λ c. c.expected) file_cases
+unfolding means file_cases
+files_mean = refl
 
 -- ---- a file read into lent memory, and all that is to come of it
 pub record ReadCase : Type 0 where
@@ -111,35 +111,35 @@ pub record ReadCase : Type 0 where
   pub lent : Rooms
   pub left : Result
 
-abbrev pub readCase : List ℕ → Rooms → Result → ReadCase
-readCase file lent left = record { file = file; lent = lent; left = left }
+abbrev pub read_case : List ℕ → Rooms → Result → ReadCase
+read_case file lent left = record { file = file; lent = lent; left = left }
 
-abbrev pub leaves : (answer : Told) (boats pairBytes rowWords : ℕ) → Rooms → Result
-leaves answer boats pairBytes rowWords m = record { answer = answer; boats = boats; pairBytes = pairBytes; rowWords = rowWords; rooms = m }
+abbrev pub leaves : (answer : Told) (boats pair_bytes row_words : ℕ) → Rooms → Result
+leaves answer boats pair_bytes row_words m = record { answer = answer; boats = boats; pair_bytes = pair_bytes; row_words = row_words; rooms = m }
 
 -- a boat without a slot: the file is read, and 3 applies to its tables
 abbrev pub slotless : List ℕ
 slotless = SZ ++ (1 ∷ 0 ∷ end_of 0 0)
 
-unfoldable pub readCases : List ReadCase
-readCases =
+unfoldable pub read_cases : List ReadCase
+read_cases =
     -- just enough memory, and more of it
-    readCase twoFile (rooms (7 ∷ 7 ∷ []) (7 ∷ 7 ∷ []) (7 ∷ [])) (leaves (told 0 (2 ∷ 1 ∷ 1 ∷ [])) 2 2 1 (rooms (1 ∷ 1 ∷ []) (0 ∷ 1 ∷ []) (1 ∷ [])))
-    ∷ readCase twoFile (rooms (7 ∷ 8 ∷ 9 ∷ []) (7 ∷ 8 ∷ 9 ∷ []) (7 ∷ 8 ∷ [])) (leaves (told 0 (2 ∷ 1 ∷ 1 ∷ [])) 2 2 1 (rooms (1 ∷ 1 ∷ 9 ∷ []) (0 ∷ 1 ∷ 9 ∷ []) (1 ∷ 8 ∷ [])))
+    read_case two_file (rooms (7 ∷ 7 ∷ []) (7 ∷ 7 ∷ []) (7 ∷ [])) (leaves (told 0 (2 ∷ 1 ∷ 1 ∷ [])) 2 2 1 (rooms (1 ∷ 1 ∷ []) (0 ∷ 1 ∷ []) (1 ∷ [])))
+    ∷ read_case two_file (rooms (7 ∷ 8 ∷ 9 ∷ []) (7 ∷ 8 ∷ 9 ∷ []) (7 ∷ 8 ∷ [])) (leaves (told 0 (2 ∷ 1 ∷ 1 ∷ [])) 2 2 1 (rooms (1 ∷ 1 ∷ 9 ∷ []) (0 ∷ 1 ∷ 9 ∷ []) (1 ∷ 8 ∷ [])))
     -- 26: one part too short, however long the others are
-    ∷ readCase twoFile (rooms (7 ∷ []) (7 ∷ 7 ∷ 7 ∷ []) (7 ∷ 7 ∷ [])) (leaves (refused 26 0) 0 0 0 (rooms (7 ∷ []) (7 ∷ 7 ∷ 7 ∷ []) (7 ∷ 7 ∷ [])))
-    ∷ readCase twoFile (rooms (7 ∷ 7 ∷ 7 ∷ []) (7 ∷ []) (7 ∷ 7 ∷ [])) (leaves (refused 26 0) 0 0 0 (rooms (7 ∷ 7 ∷ 7 ∷ []) (7 ∷ []) (7 ∷ 7 ∷ [])))
-    ∷ readCase twoFile (rooms (7 ∷ 7 ∷ 7 ∷ []) (7 ∷ 7 ∷ 7 ∷ []) []) (leaves (refused 26 0) 0 0 0 (rooms (7 ∷ 7 ∷ 7 ∷ []) (7 ∷ 7 ∷ 7 ∷ []) []))
+    ∷ read_case two_file (rooms (7 ∷ []) (7 ∷ 7 ∷ 7 ∷ []) (7 ∷ 7 ∷ [])) (leaves (refused 26 0) 0 0 0 (rooms (7 ∷ []) (7 ∷ 7 ∷ 7 ∷ []) (7 ∷ 7 ∷ [])))
+    ∷ read_case two_file (rooms (7 ∷ 7 ∷ 7 ∷ []) (7 ∷ []) (7 ∷ 7 ∷ [])) (leaves (refused 26 0) 0 0 0 (rooms (7 ∷ 7 ∷ 7 ∷ []) (7 ∷ []) (7 ∷ 7 ∷ [])))
+    ∷ read_case two_file (rooms (7 ∷ 7 ∷ 7 ∷ []) (7 ∷ 7 ∷ 7 ∷ []) []) (leaves (refused 26 0) 0 0 0 (rooms (7 ∷ 7 ∷ 7 ∷ []) (7 ∷ 7 ∷ 7 ∷ []) []))
     -- 26 before the examination; then its refusal, and the tables stand
-    ∷ readCase slotless (rooms [] [] []) (leaves (refused 26 0) 0 0 0 (rooms [] [] []))
-    ∷ readCase slotless (rooms (7 ∷ []) [] []) (leaves (refused 3 0) 1 0 0 (rooms (0 ∷ []) [] []))
+    ∷ read_case slotless (rooms [] [] []) (leaves (refused 26 0) 0 0 0 (rooms [] [] []))
+    ∷ read_case slotless (rooms (7 ∷ []) [] []) (leaves (refused 3 0) 1 0 0 (rooms (0 ∷ []) [] []))
     -- a fault before 26
-    ∷ readCase (twoFile ++ (0 ∷ [])) (rooms (7 ∷ []) [] []) (leaves (refused 25 21) 0 0 0 (rooms (7 ∷ []) [] []))
+    ∷ read_case (two_file ++ (0 ∷ [])) (rooms (7 ∷ []) [] []) (leaves (refused 25 21) 0 0 0 (rooms (7 ∷ []) [] []))
     ∷ []
 
-pub files-read : map (λ c. readResult c.file c.lent) readCases ≡ map (λ c. c.left) readCases
-unfolding readResult means readCases examination first_of lowest lowestFrom start sum wayBad badWord pairOfWord
-files-read = refl
+pub files_read : map (λ c. read_result c.file c.lent) read_cases ≡ map (λ c. c.left) read_cases
+unfolding read_result means read_cases examination first_of lowest lowest_from start sum first_way_bad bad_word pair_of_word
+files_read = refl
 
 -- ---- the desk's question of a file and a plan, with memory enough for two boats, one pair and one row, and its answer
 pub record DeskCase : Type 0 where
@@ -147,26 +147,26 @@ pub record DeskCase : Type 0 where
   pub given : List ℕ
   pub answer : Told
 
-abbrev pub deskCase : List ℕ → List ℕ → Told → DeskCase
-deskCase file given answer = record { file = file; given = given; answer = answer }
+abbrev pub desk_case : List ℕ → List ℕ → Told → DeskCase
+desk_case file given answer = record { file = file; given = given; answer = answer }
 
 abbrev pub enough : Rooms
 enough = rooms (7 ∷ 7 ∷ []) (7 ∷ 7 ∷ []) (7 ∷ [])
 
-unfoldable pub deskCases : List DeskCase
-deskCases =
+unfoldable pub desk_cases : List DeskCase
+desk_cases =
     -- yes; no, where the pair's row is empty
-    deskCase twoFile (0 ∷ 0 ∷ []) (told 0 [])
-    ∷ deskCase (sizes2 ++ (pair_of 0 1 0 ++ end_of 1 0)) (0 ∷ 0 ∷ []) (told 1 [])
+    desk_case two_file (0 ∷ 0 ∷ []) (told 0 [])
+    ∷ desk_case (sizes2 ++ (pair_of 0 1 0 ++ end_of 1 0)) (0 ∷ 0 ∷ []) (told 1 [])
     -- the plan's refusals: its length, then its slots
-    ∷ deskCase twoFile (0 ∷ []) (refused 10 0)
-    ∷ deskCase twoFile (0 ∷ 1 ∷ []) (refused 11 1)
+    ∷ desk_case two_file (0 ∷ []) (refused 10 0)
+    ∷ desk_case two_file (0 ∷ 1 ∷ []) (refused 11 1)
     -- the file's, and the examination's, before the plan's
-    ∷ deskCase (0x58 ∷ []) [] (refused 22 1)
-    ∷ deskCase (SZ ++ (3 ∷ 1 ∷ 1 ∷ 1 ∷ end_of 0 0)) [] (refused 26 0)
-    ∷ deskCase slotless [] (refused 3 0)
+    ∷ desk_case (0x58 ∷ []) [] (refused 22 1)
+    ∷ desk_case (SZ ++ (3 ∷ 1 ∷ 1 ∷ 1 ∷ end_of 0 0)) [] (refused 26 0)
+    ∷ desk_case slotless [] (refused 3 0)
     ∷ []
 
-pub desk-asked : map (λ c. (deskResult c.file c.given enough).answer) deskCases ≡ map (λ c. c.answer) deskCases
-unfolding deskResult means deskCases lawfulQuestion broken examination first_of lowest lowestFrom start sum wayBad badWord pairOfWord
-desk-asked = refl
+pub desk_asked : map (λ c. (desk_result c.file c.given enough).answer) desk_cases ≡ map (λ c. c.answer) desk_cases
+unfolding desk_result means desk_cases lawful_question broken examination first_of lowest lowest_from start sum first_way_bad bad_word pair_of_word
+desk_asked = refl

@@ -15,18 +15,18 @@ ED = 0x45 ∷ 0x44 ∷ []
 
 -- ---- the records
 -- "SZ", one byte n, n sizes
-unfoldable pub sizesRecord : Tables → List ℕ
-sizesRecord t = SZ ++ (boats t ∷ t.sizes)
+unfoldable pub sizes_record : Tables → List ℕ
+sizes_record t = SZ ++ (boats t ∷ t.sizes)
 
 -- "PR", two boats, then one word of eight bytes, low byte first, for each slot of the lower boat
-unfoldable pub pairRecord : Tables → (k : ℕ) → List ℕ
-pairRecord t k =
+unfoldable pub pair_record : Tables → (k : ℕ) → List ℕ
+pair_record t k =
     PR ++ (lower t.pairs k ∷ higher t.pairs k ∷ joined (size t.sizes (lower t.pairs k)) (λ a. bytes_of 8 (row t k a)))
 
 -- "ED", two bytes, low first, the number of PR records
-unfoldable pub endRecord : Tables → List ℕ
-endRecord t = ED ++ bytes_of 2 (listed t.pairs)
+unfoldable pub end_record : Tables → List ℕ
+end_record t = ED ++ bytes_of 2 (listed t.pairs)
 
 -- one SZ, the PRs, one ED
-unfoldable pub fileOf : Tables → List ℕ
-fileOf t = sizesRecord t ++ (joined (listed t.pairs) (pairRecord t) ++ endRecord t)
+unfoldable pub file_of : Tables → List ℕ
+file_of t = sizes_record t ++ (joined (listed t.pairs) (pair_record t) ++ end_record t)

@@ -4,11 +4,11 @@ use Rattle.problem.specs.Tables.{Tables}
 use Rattle.problem.specs.Plans.{Lawful}
 use Rattle.problem.specs.Replies.{Told, told}
 use Rattle.tables.specs.Examination.{examination, Fine}
-use Rattle.files.specs.File.{fileOf}
+use Rattle.files.specs.File.{file_of}
 use Rattle.files.specs.Reading.{Reading, fault, read, reading}
-use Rattle.files.specs.Rooms.{Rooms, tooShort, tooSmall, covering}
-use Rattle.files.specs.Reader.{Result, standingResult, readResult}
-use Rattle.files.specs.Writer.{writeAnswer, writtenRoom}
+use Rattle.files.specs.Rooms.{Rooms, too_short, too_small, covering}
+use Rattle.files.specs.Reader.{Result, standing_result, read_result}
+use Rattle.files.specs.Writer.{write_answer, written_room}
 
 -- ---- a reading: another number than 22, or tables
 abbrev pub NotCut : Reading → Type 0
@@ -24,8 +24,8 @@ OfFile number = (121 ≤ number) × (number ≤ 126)
 pub record Untouched (m : Rooms) (r : Result) : Type 0 where
   pub rooms : r.rooms ≡ m
   pub boats : r.boats ≡ 0
-  pub pairBytes : r.pairBytes ≡ 0
-  pub rowWords : r.rowWords ≡ 0
+  pub pair_bytes : r.pair_bytes ≡ 0
+  pub row_words : r.row_words ≡ 0
 
 -- the lent parts keep their lengths
 pub record SameLengths (m : Rooms) (r : Result) : Type 0 where
@@ -36,44 +36,44 @@ pub record SameLengths (m : Rooms) (r : Result) : Type 0 where
 -- the file is read, and a part of the lent memory is too short
 pub record TooSmall (file : List ℕ) (m : Rooms) : Type 0 where
   pub t : Tables
-  pub isRead : reading file ≡ read t
-  pub short : tooSmall m t ≡ true
+  pub is_read : reading file ≡ read t
+  pub short : too_small m t ≡ true
 
 -- the file is read, the lent memory is enough, and the tables stand there
 pub record Stands (ask : Tables → Told) (file : List ℕ) (m : Rooms) (r : Result) : Type 0 where
   pub t : Tables
-  pub isRead : reading file ≡ read t
-  pub enough : tooSmall m t ≡ false
-  pub is : r ≡ standingResult ask t m
+  pub is_read : reading file ≡ read t
+  pub enough : too_small m t ≡ false
+  pub is : r ≡ standing_result ask t m
 
 -- the bytes are the file of tables that pass the examination, and these stand in the lent memory
 pub record FineFile (file : List ℕ) (m : Rooms) : Type 0 where
   pub t : Tables
   pub fine : Fine t
-  pub isFile : fileOf t ≡ file
-  pub is : readResult file m ≡ standingResult examination t m
+  pub is_file : file_of t ≡ file
+  pub is : read_result file m ≡ standing_result examination t m
 
 -- ---- the desk's question: the file is read, the memory is enough, the tables are fine and the plan is lawful by them
 pub record LawfulByFile (file given : List ℕ) (m : Rooms) : Type 0 where
   pub t : Tables
-  pub isRead : reading file ≡ read t
-  pub enough : tooSmall m t ≡ false
+  pub is_read : reading file ≡ read t
+  pub enough : too_small m t ≡ false
   pub fine : Fine t
   pub lawful : Lawful t given
 
 -- ---- the writer: what it says, and what it leaves
 pub record Left (t : Tables) (room : List ℕ) (answer : Told) (after : List ℕ) : Type 0 where
-  pub says : writeAnswer t room ≡ answer
-  pub leaves : writtenRoom t room ≡ after
+  pub says : write_answer t room ≡ answer
+  pub leaves : written_room t room ≡ after
 
 -- the tables pass the examination, and the memory is shorter than their file
 pub record RoomShort (t : Tables) (room : List ℕ) : Type 0 where
   pub fine : Fine t
-  pub short : tooShort room (fileOf t) ≡ true
+  pub short : too_short room (file_of t) ≡ true
 
 -- they pass the examination, the memory is enough, and what stands first in it is then their file
 pub record FileWritten (t : Tables) (room : List ℕ) : Type 0 where
   pub fine : Fine t
-  pub enough : tooShort room (fileOf t) ≡ false
-  pub left : Left t room (told 0 (length (fileOf t) ∷ [])) (covering (fileOf t) room)
-  pub first : take (length (fileOf t)) (writtenRoom t room) ≡ fileOf t
+  pub enough : too_short room (file_of t) ≡ false
+  pub left : Left t room (told 0 (length (file_of t) ∷ [])) (covering (file_of t) room)
+  pub first : take (length (file_of t)) (written_room t room) ≡ file_of t

@@ -12,12 +12,12 @@ abbrev pub rooms : (sizes pairs rows : List ℕ) → Rooms
 rooms sizes pairs rows = record { sizes = sizes; pairs = pairs; rows = rows }
 
 -- a part is shorter than what would be written there
-abbrev pub tooShort : (room content : List ℕ) → Bool
-tooShort room content = ltb (length room) (length content)
+abbrev pub too_short : (room content : List ℕ) → Bool
+too_short room content = ltb (length room) (length content)
 
 -- 26: one of the parts is, each judged alone
-abbrev pub tooSmall : Rooms → Tables → Bool
-tooSmall m t = tooShort m.sizes t.sizes || (tooShort m.pairs t.pairs || tooShort m.rows t.rows)
+abbrev pub too_small : Rooms → Tables → Bool
+too_small m t = too_short m.sizes t.sizes || (too_short m.pairs t.pairs || too_short m.rows t.rows)
 
 -- what is written stands first, and the rest of the part is as it was
 abbrev pub covering : (content room : List ℕ) → List ℕ

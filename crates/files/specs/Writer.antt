@@ -4,21 +4,21 @@ use Rattle.problem.specs.Tables.{Tables}
 use Rattle.problem.specs.Replies.{Told, told}
 use Rattle.tables.specs.Tests.{Test, once, first_of}
 use Rattle.tables.specs.Examination.{tests}
-use Rattle.files.specs.File.{fileOf}
-use Rattle.files.specs.Rooms.{tooShort, covering}
+use Rattle.files.specs.File.{file_of}
+use Rattle.files.specs.Rooms.{too_short, covering}
 
 -- the writer begins with the examination; last 26, lent memory too small for the file
-abbrev pub writeTests : Tables → (room : List ℕ) → List Test
-writeTests t room = tests t ++ (once 26 (tooShort room (fileOf t)) ∷ [])
+abbrev pub write_tests : Tables → (room : List ℕ) → List Test
+write_tests t room = tests t ++ (once 26 (too_short room (file_of t)) ∷ [])
 
 -- where none applies: number 0, with the file's length
-unfoldable pub writeAnswer : Tables → (room : List ℕ) → Told
-writeAnswer t room = first_of (writeTests t room) (told 0 (length (fileOf t) ∷ []))
+unfoldable pub write_answer : Tables → (room : List ℕ) → Told
+write_answer t room = first_of (write_tests t room) (told 0 (length (file_of t) ∷ []))
 
 -- the lent memory afterwards: the file, and the bytes after it as they were; as it was where the writer refuses
-abbrev pub fileOr : (written : Bool) → Tables → List ℕ → List ℕ
-fileOr true t room = covering (fileOf t) room
-fileOr false t room = room
+abbrev pub file_or : (written : Bool) → Tables → List ℕ → List ℕ
+file_or true t room = covering (file_of t) room
+file_or false t room = room
 
-unfoldable pub writtenRoom : Tables → (room : List ℕ) → List ℕ
-writtenRoom t room = fileOr (eqb (writeAnswer t room).number 0) t room
+unfoldable pub written_room : Tables → (room : List ℕ) → List ℕ
+written_room t room = file_or (eqb (write_answer t room).number 0) t room

@@ -4,14 +4,14 @@ use mathlib.Core.Bool.{false}
 use Prim.Native.Nat.{ℕ, ◌+◌, ◌≤◌}
 use native.Mathlib.Omega.{arith}
 use borrow.Author.Tests.{ne_eqb}
-use Rattle.problem.specs.Replies.{refusalNumber, refusalPlace, refusalTold}
+use Rattle.problem.specs.Replies.{refusal_number, refusal_place, refusal_told}
 use Rattle.problem.specs.declared.Refusal.{Refusal}
 use Rattle.problem.specs.declared.Refusal.TheVariants.{Method, Boats, Size, PairBytes, PairNoBoat, PairSameBoat, PairHigherFirst, PairNotRising, RowWords, RowBit, PlanMemory, WorkMemory, GivenLength, GivenSlot, Mark, FileEnd, FileBoat, FileCount, FileRest, Room}
 use Rattle.handing.specs.declared.HarbourReply.{HarbourReply}
-use Rattle.handing.specs.Handed.{handed, fineOrRefused, lengthOrPlace, handedWritten}
+use Rattle.handing.specs.Handed.{handed, fine_or_refused, length_or_place, handed_written}
 
 -- the largest number is 54, so that 100 can be added
-pub number_small : (why : Refusal) → refusalNumber why ≤ 54
+pub number_small : (why : Refusal) → refusal_number why ≤ 54
 number_small Method = omega arith
 number_small Boats = omega arith
 number_small (Size boat) = omega arith
@@ -34,14 +34,14 @@ number_small (FileRest byte) = omega arith
 number_small Room = omega arith
 
 -- a refusal by its number and place
-pub refusal-handed : (why : Refusal) (r : HarbourReply) (number place checks trials : ℕ) → number ≡ refusalNumber why → place ≡ refusalPlace why →
-    r ≡ record { answer = 100 + number; place = place; checks = checks; trials = trials } → r ≡ handed (refusalTold why) checks trials
-refusal-handed why r number place checks trials n p e = rw (← n, ← p) e
+pub refusal_handed : (why : Refusal) (r : HarbourReply) (number place checks trials : ℕ) → number ≡ refusal_number why → place ≡ refusal_place why →
+    r ≡ record { answer = 100 + number; place = place; checks = checks; trials = trials } → r ≡ handed (refusal_told why) checks trials
+refusal_handed why r number place checks trials n p e = rw (← n, ← p) e
 
 -- a refusal is not taken for fine tables
-pub refusal-stays : (why : Refusal) → fineOrRefused (refusalTold why) ≡ refusalTold why
-refusal-stays why = rw (fineOrRefused, ne_eqb (100 + refusalNumber why) 0 (omega arith))
+pub refusal_stays : (why : Refusal) → fine_or_refused (refusal_told why) ≡ refusal_told why
+refusal_stays why = rw (fine_or_refused, ne_eqb (100 + refusal_number why) 0 (omega arith))
 
 -- .. nor for a file's length
-pub refusal-written : (why : Refusal) → handedWritten (refusalTold why) ≡ lengthOrPlace false (100 + refusalNumber why) (refusalPlace why)
-refusal-written why = ap (λ b. lengthOrPlace b (100 + refusalNumber why) (refusalPlace why)) (ne_eqb (100 + refusalNumber why) 0 (omega arith))
+pub refusal_written : (why : Refusal) → handed_written (refusal_told why) ≡ length_or_place false (100 + refusal_number why) (refusal_place why)
+refusal_written why = ap (λ b. length_or_place b (100 + refusal_number why) (refusal_place why)) (ne_eqb (100 + refusal_number why) 0 (omega arith))

@@ -1,11 +1,11 @@
 // The replies of the operations, each as the numbers that a C caller is handed.
 ghost use Rattle.std.specs.Prelude.{◌≡◌};
-ghost use Rattle.problem.specs.Replies.{answerTold, refusalTold};
+ghost use Rattle.problem.specs.Replies.{answer_told, refusal_told};
 ghost use Rattle.problem.specs.declared.Answer.TheVariants.{Undecided};
-ghost use Rattle.tables.specs.Replies.{examinedTold};
-ghost use Rattle.questions.specs.Replies.{judgedTold, brokenTold};
-ghost use Rattle.writer.specs.Replies.{writtenTold};
-ghost use Rattle.handing.specs.Handed.{handed, fineOrRefused, handedRead, handedWritten};
+ghost use Rattle.tables.specs.Replies.{examined_told};
+ghost use Rattle.questions.specs.Replies.{judged_told, broken_told};
+ghost use Rattle.writer.specs.Replies.{written_told};
+ghost use Rattle.handing.specs.Handed.{handed, fine_or_refused, handed_read, handed_written};
 
 use problem::{Allowance, Answer, Refusal, Reply};
 use questions::{Broken, Judged};
@@ -80,7 +80,7 @@ fn numbered(answer: u64, place: u64, checks: u64, trials: u64) -> HarbourReply
 }
 
 fn refused(why: Refusal, checks: u64, trials: u64) -> HarbourReply
-    ensures { result ≡ handed (refusalTold why) checks trials }
+    ensures { result ≡ handed (refusal_told why) checks trials }
 {
     let told = problem::number_of(why);
     numbered(
@@ -92,7 +92,7 @@ fn refused(why: Refusal, checks: u64, trials: u64) -> HarbourReply
 }
 
 fn undecided(by: Allowance, checks: u64, trials: u64) -> HarbourReply
-    ensures { result ≡ handed (answerTold (Undecided by)) checks trials }
+    ensures { result ≡ handed (answer_told (Undecided by)) checks trials }
 {
     match by {
         Allowance::Checks => numbered(HarbourReply::UNDECIDED_BY_CHECKS, 0, checks, trials),
@@ -101,7 +101,7 @@ fn undecided(by: Allowance, checks: u64, trials: u64) -> HarbourReply
 }
 
 pub fn replied(reply: Reply) -> HarbourReply
-    ensures { result ≡ handed (answerTold reply.answer) reply.checks reply.trials }
+    ensures { result ≡ handed (answer_told reply.answer) reply.checks reply.trials }
 {
     let answer = reply.answer;
     match answer {
@@ -113,7 +113,7 @@ pub fn replied(reply: Reply) -> HarbourReply
 }
 
 pub fn examined(found: Examined) -> HarbourReply
-    ensures { result ≡ handed (fineOrRefused (examinedTold found)) 0 0 }
+    ensures { result ≡ handed (fine_or_refused (examined_told found)) 0 0 }
 {
     match found {
         Examined::Fine(_) => numbered(HarbourReply::FINE, 0, 0, 0),
@@ -122,7 +122,7 @@ pub fn examined(found: Examined) -> HarbourReply
 }
 
 pub fn judged(found: Judged) -> HarbourReply
-    ensures { result ≡ handed (judgedTold found) 0 0 }
+    ensures { result ≡ handed (judged_told found) 0 0 }
 {
     match found {
         Judged::Lawful => numbered(HarbourReply::LAWFUL, 0, 0, 0),
@@ -132,7 +132,7 @@ pub fn judged(found: Judged) -> HarbourReply
 }
 
 pub fn broken(found: Broken) -> HarbourReply
-    ensures { result ≡ handed (brokenTold found) 0 0 }
+    ensures { result ≡ handed (broken_told found) 0 0 }
 {
     match found {
         Broken::Nowhere => numbered(HarbourReply::UNBROKEN, 0, 0, 0),
@@ -142,7 +142,7 @@ pub fn broken(found: Broken) -> HarbourReply
 }
 
 pub fn file_read(reply: FileRead) -> HarbourReadReply
-    ensures { result ≡ handedRead (examinedTold reply.found) reply.boats reply.pair_bytes reply.row_words }
+    ensures { result ≡ handed_read (examined_told reply.found) reply.boats reply.pair_bytes reply.row_words }
 {
     let found = reply.found;
     let told = examined(found);
@@ -166,7 +166,7 @@ fn file_written(answer: u64, place: u64, length: u64) -> HarbourWritten
 }
 
 pub fn written(found: Written) -> HarbourWritten
-    ensures { result ≡ handedWritten (writtenTold found) }
+    ensures { result ≡ handed_written (written_told found) }
 {
     match found {
         Written::Done(length) => file_written(HarbourReply::WRITTEN, 0, length as u64),

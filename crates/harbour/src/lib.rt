@@ -2,13 +2,13 @@
 ghost use Rattle.std.specs.Prelude.{◌≡◌};
 ghost use Rattle.problem.specs.Tables.{tables};
 ghost use Rattle.tables.specs.Examination.{examination};
-ghost use Rattle.questions.specs.Questions.{lawfulQuestion, brokenQuestion, rowsShown};
-ghost use Rattle.runs.specs.Runs.{runResult};
+ghost use Rattle.questions.specs.Questions.{lawful_question, broken_question, rows_shown};
+ghost use Rattle.runs.specs.Runs.{run_result};
 ghost use Rattle.files.specs.Rooms.{rooms};
-ghost use Rattle.files.specs.Reader.{readResult, deskResult};
-ghost use Rattle.files.specs.Writer.{writeAnswer, writtenRoom};
-ghost use Rattle.handing.specs.Handed.{handed, fineOrRefused, handedWritten};
-ghost use Rattle.harbour.specs.Handed.{handedRun, handedPart, handedFile};
+ghost use Rattle.files.specs.Reader.{read_result, desk_result};
+ghost use Rattle.files.specs.Writer.{write_answer, written_room};
+ghost use Rattle.handing.specs.Handed.{handed, fine_or_refused, handed_written};
+ghost use Rattle.harbour.specs.Handed.{handed_run, handed_part, handed_file};
 
 use handing::{HarbourReadReply, HarbourReply, HarbourWritten};
 
@@ -31,9 +31,9 @@ pub extern "C" fn harbour_run(
     checks: u64,
     trials: u64,
 ) -> HarbourReply
-    ensures value { result ≡ handedRun (runResult method (tables sizes.now pairs.now rows.now) plan.old work.old checks trials) }
-    ensures plan_after { plan.new ≡ (runResult method (tables sizes.now pairs.now rows.now) plan.old work.old checks trials).plan }
-    ensures work_after { work.new ≡ (runResult method (tables sizes.now pairs.now rows.now) plan.old work.old checks trials).work }
+    ensures value { result ≡ handed_run (run_result method (tables sizes.now pairs.now rows.now) plan.old work.old checks trials) }
+    ensures plan_after { plan.new ≡ (run_result method (tables sizes.now pairs.now rows.now) plan.old work.old checks trials).plan }
+    ensures work_after { work.new ≡ (run_result method (tables sizes.now pairs.now rows.now) plan.old work.old checks trials).work }
 {
     let reply = planner::run(method, sizes, pairs, rows, plan, work, checks, trials);
     handing::replied(reply)
@@ -41,7 +41,7 @@ pub extern "C" fn harbour_run(
 
 #[unsafe(no_mangle)]
 pub extern "C" fn harbour_examine(sizes: &[u8], pairs: &[u8], rows: &[u64]) -> HarbourReply
-    ensures { result ≡ handed (fineOrRefused (examination (tables sizes.now pairs.now rows.now))) 0 0 }
+    ensures { result ≡ handed (fine_or_refused (examination (tables sizes.now pairs.now rows.now))) 0 0 }
 {
     handing::examined(tables::examine(sizes, pairs, rows))
 }
@@ -53,7 +53,7 @@ pub extern "C" fn harbour_lawful(
     rows: &[u64],
     given: &[u8],
 ) -> HarbourReply
-    ensures { result ≡ handed (lawfulQuestion (tables sizes.now pairs.now rows.now) given.now) 0 0 }
+    ensures { result ≡ handed (lawful_question (tables sizes.now pairs.now rows.now) given.now) 0 0 }
 {
     handing::judged(questions::is_lawful(sizes, pairs, rows, given))
 }
@@ -65,7 +65,7 @@ pub extern "C" fn harbour_broken(
     rows: &[u64],
     given: &[u8],
 ) -> HarbourReply
-    ensures { result ≡ handed (brokenQuestion (tables sizes.now pairs.now rows.now) given.now) 0 0 }
+    ensures { result ≡ handed (broken_question (tables sizes.now pairs.now rows.now) given.now) 0 0 }
 {
     handing::broken(questions::first_broken(sizes, pairs, rows, given))
 }
@@ -78,7 +78,7 @@ pub extern "C" fn harbour_rows(
     lower: u64,
     higher: u64,
 ) -> HarbourPart
-    ensures { result ≡ handedPart (rowsShown (tables sizes.now pairs.now rows.now) lower higher) }
+    ensures { result ≡ handed_part (rows_shown (tables sizes.now pairs.now rows.now) lower higher) }
 {
     let part = questions::place_of_rows(sizes, pairs, rows, lower as usize, higher as usize);
     HarbourPart {
@@ -94,8 +94,8 @@ pub extern "C" fn harbour_read(
     pairs: &mut [u8],
     rows: &mut [u64],
 ) -> HarbourReadReply
-    ensures value { result ≡ handedFile (readResult file.now (rooms sizes.old pairs.old rows.old)) }
-    ensures rows_after { rooms sizes.new pairs.new rows.new ≡ (readResult file.now (rooms sizes.old pairs.old rows.old)).rooms }
+    ensures value { result ≡ handed_file (read_result file.now (rooms sizes.old pairs.old rows.old)) }
+    ensures rows_after { rooms sizes.new pairs.new rows.new ≡ (read_result file.now (rooms sizes.old pairs.old rows.old)).rooms }
 {
     handing::file_read(reader::read(file, sizes, pairs, rows))
 }
@@ -107,8 +107,8 @@ pub extern "C" fn harbour_write(
     rows: &[u64],
     file: &mut [u8],
 ) -> HarbourWritten
-    ensures value { result ≡ handedWritten (writeAnswer (tables sizes.now pairs.now rows.now) file.old) }
-    ensures file_after { file.new ≡ writtenRoom (tables sizes.now pairs.now rows.now) file.old }
+    ensures value { result ≡ handed_written (write_answer (tables sizes.now pairs.now rows.now) file.old) }
+    ensures file_after { file.new ≡ written_room (tables sizes.now pairs.now rows.now) file.old }
 {
     handing::written(writer::write(sizes, pairs, rows, file))
 }
@@ -121,8 +121,8 @@ pub extern "C" fn harbour_lawful_file(
     pairs: &mut [u8],
     rows: &mut [u64],
 ) -> u64
-    ensures value { result ≡ (deskResult file.now given.now (rooms sizes.old pairs.old rows.old)).answer.number }
-    ensures rows_after { rooms sizes.new pairs.new rows.new ≡ (deskResult file.now given.now (rooms sizes.old pairs.old rows.old)).rooms }
+    ensures value { result ≡ (desk_result file.now given.now (rooms sizes.old pairs.old rows.old)).answer.number }
+    ensures rows_after { rooms sizes.new pairs.new rows.new ≡ (desk_result file.now given.now (rooms sizes.old pairs.old rows.old)).rooms }
 {
     handing::judged(reader::is_lawful_by(file, given, sizes, pairs, rows)).answer
 }

@@ -12,9 +12,9 @@ use Rattle.problem.specs.Sane.{Sane}
 use Rattle.words.specs.Places.{tri}
 use Rattle.words.specs.Layout.{word, ChangedOnly, index_of, Indexed}
 use Rattle.words.specs.Links.{Links, Linked}
-use Rattle.words.proofs.Triangle.{tri-next, tri-small, tri-mono}
-use Rattle.words.proofs.ChangedOnly.{only-refl, only-trans, only_set, only-widen}
-use Rattle.words.proofs.Links.{links-bounds, links-stay}
+use Rattle.words.proofs.Triangle.{tri_next, tri_small, tri_mono}
+use Rattle.words.proofs.ChangedOnly.{only_refl, only_trans, only_set, only_widen}
+use Rattle.words.proofs.Links.{links_bounds, links_stay}
 
 -- where the links of boat k begin
 abbrev first : List ℕ → ℕ → ℕ
@@ -24,80 +24,80 @@ abbrev LinksOf : Tables → List ℕ → ℕ → Type 0
 LinksOf t w k = Links t w k k 0 (first w k) (word w (193 + k))
 
 -- boat i's links end at r, and the next boat's begin there
-abbrev firstPut : List ℕ → (i r : ℕ) → List ℕ
-firstPut w i r = set w (193 + i) r
+abbrev first_put : List ℕ → (i r : ℕ) → List ℕ
+first_put w i r = set w (193 + i) r
 
 -- before boat i, whose links begin at 512 + at: the later boats' index rows are as they were
 pub record LinkedTo (t : Tables) (w₀ w : List ℕ) (at i : ℕ) : Type 0 where
   pub up_to : i ≤ boats t
-  pub toCome : first w i ≡ at
+  pub to_come : first w i ≡ at
   pub few : (k : ℕ) → k < i + 1 → (first w k ≤ tri k) × (first w k ≤ at)
   pub links : (k : ℕ) → k < i → LinksOf t w k
   pub indexed : (h k : ℕ) → h < k → i ≤ k → k < boats t → word w (512 + tri k + h) ≡ index_of t h k
   pub only : ChangedOnly 192 4096 w₀ w
 
 module _ {t : Tables} where
-  pub linked-none : (w : List ℕ) → 8192 ≤ length w → Indexed t w → LinkedTo t (set w 192 0) (set w 192 0) 0 0
-  linked-none w long d =
+  pub linked_none : (w : List ℕ) → 8192 ≤ length w → Indexed t w → LinkedTo t (set w 192 0) (set w 192 0) 0 0
+  linked_none w long d =
       let e : word (set w 192 0) 192 ≡ 0 = get_or-set_same w 192 0 0 (omega arith) in
       record {
         up_to = omega arith;
-        toCome = e;
+        to_come = e;
         few = below_more _ 0 (λ k l. absurd (omega arith)) (omega arith);
         links = λ k l. absurd (omega arith);
         indexed = λ h k lh lo hi. get_or-set_other w 192 (512 + tri k + h) 0 0 (omega arith) ∙ d h k lh hi;
-        only = only-refl 192 4096 (set w 192 0);
+        only = only_refl 192 4096 (set w 192 0);
       }
 
   module _ (s : Sane t) {w₀ w : List ℕ} {at i : ℕ} (b : LinkedTo t w₀ w at i) where
-    pub linked-at : at ≤ tri i
-    linked-at = omega (arith, b.few i (omega arith), b.toCome)
+    pub linked_at : at ≤ tri i
+    linked_at = omega (arith, b.few i (omega arith), b.to_come)
 
-    pub linked-all : boats t ≤ i → Linked t w
-    linked-all le = record { few = λ k l. (b.few k (omega arith)).0; links = λ k l. b.links k (omega arith) }
+    pub linked_all : boats t ≤ i → Linked t w
+    linked_all le = record { few = λ k l. (b.few k (omega arith)).0; links = λ k l. b.links k (omega arith) }
 
     -- once boat i's links are made, and where they end is the next boat's word
     module _ {w₁ : List ℕ} {r : ℕ} (li : i < boats t) (long : 8192 ≤ length w) (made : (r ≤ at + i) × Links t w₁ i i 0 at r)
         (own : ChangedOnly (512 + at) (512 + tri i + i) w w₁) where
-      put_other : (k : ℕ) → (k < 512 + at) ⊎ (512 + tri i + i ≤ k) → (k ≡ 193 + i → ⊥) → word (firstPut w₁ i r) k ≡ word w k
+      put_other : (k : ℕ) → (k < 512 + at) ⊎ (512 + tri i + i ≤ k) → (k ≡ 193 + i → ⊥) → word (first_put w₁ i r) k ≡ word w k
       put_other k away ne = get_or-set_other w₁ (193 + i) k r 0 ne ∙ own.others k away
 
-      put-here : word (firstPut w₁ i r) (193 + i) ≡ r
-      put-here = get_or-set_same w₁ (193 + i) r 0 (omega (arith, own.long))
+      put_here : word (first_put w₁ i r) (193 + i) ≡ r
+      put_here = get_or-set_same w₁ (193 + i) r 0 (omega (arith, own.long))
 
-      put_first : (k : ℕ) → k < i + 1 → first (firstPut w₁ i r) k ≡ first w k
+      put_first : (k : ℕ) → k < i + 1 → first (first_put w₁ i r) k ≡ first w k
       put_first k l = put_other (192 + k) (inl (omega arith)) (omega arith)
 
       -- the links of the boats before it are below its own
-      links-before : (k : ℕ) → k < i → LinksOf t (firstPut w₁ i r) k
-      links-before k l =
+      links_before : (k : ℕ) → k < i → LinksOf t (first_put w₁ i r) k
+      links_before k l =
           let e : 193 + k ≡ 192 + (k + 1) = omega arith in
           let f = b.few (k + 1) (omega arith) in
           let g = ap (word w) e in
           rw (put_first k (omega arith), put_other (193 + k) (inl (omega arith)) (omega arith))
-          (links-stay (λ m lo hi. put_other (512 + m) (inl (omega arith)) (omega arith)) (b.links k l))
+          (links_stay (λ m lo hi. put_other (512 + m) (inl (omega arith)) (omega arith)) (b.links k l))
 
-      links-here : LinksOf t (firstPut w₁ i r) i
-      links-here =
-          rw (put_first i (omega arith), b.toCome, put-here)
-          (links-stay (λ m lo hi. get_or-set_other w₁ (193 + i) (512 + m) r 0 (omega arith)) made.1)
+      links_here : LinksOf t (first_put w₁ i r) i
+      links_here =
+          rw (put_first i (omega arith), b.to_come, put_here)
+          (links_stay (λ m lo hi. get_or-set_other w₁ (193 + i) (512 + m) r 0 (omega arith)) made.1)
 
-      pub linked-more : LinkedTo t w₀ (firstPut w₁ i r) r (i + 1)
-      linked-more =
+      pub linked_more : LinkedTo t w₀ (first_put w₁ i r) r (i + 1)
+      linked_more =
           let e : 192 + (i + 1) ≡ 193 + i = omega arith in
-          let z = ap (word (firstPut w₁ i r)) e ∙ put-here in
-          let q = links-bounds made.1 in
+          let z = ap (word (first_put w₁ i r)) e ∙ put_here in
+          let q = links_bounds made.1 in
           record {
             up_to = omega arith;
-            toCome = z;
+            to_come = z;
             few =
                 below_more _ (i + 1)
                 (λ k l. let f = b.few k l in let p = put_first k l in omega arith)
-                (omega (arith, linked-at, tri-next i));
-            links = below_more (LinksOf t (firstPut w₁ i r)) i links-before links-here;
+                (omega (arith, linked_at, tri_next i));
+            links = below_more (LinksOf t (first_put w₁ i r)) i links_before links_here;
             indexed = λ h k lh lo hi.
-                put_other (512 + tri k + h) (inr (omega (arith, tri-next i, tri-mono (i + 1) k lo))) (omega arith) ∙ b.indexed h k lh (omega arith) hi;
+                put_other (512 + tri k + h) (inr (omega (arith, tri_next i, tri_mono (i + 1) k lo))) (omega arith) ∙ b.indexed h k lh (omega arith) hi;
             only =
-                only-trans b.only
-                (only-trans (only-widen (omega arith) (omega (arith, tri-small i (omega arith))) own) (only_set w₁ (193 + i) r (omega arith) (omega arith)));
+                only_trans b.only
+                (only_trans (only_widen (omega arith) (omega (arith, tri_small i (omega arith))) own) (only_set w₁ (193 + i) r (omega arith) (omega arith)));
           }

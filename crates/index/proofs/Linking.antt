@@ -8,32 +8,32 @@ use native.Mathlib.Numerals.{add-one}
 use native.Mathlib.Omega.{arith}
 use lib.ListN.{length, set}
 use lib.Seq.{get_or-set_same, get_or-set_other}
-use Rattle.problem.specs.Tables.{Tables, place, isListed}
+use Rattle.problem.specs.Tables.{Tables, place, is_listed}
 use Rattle.problem.specs.Sane.{Sane}
-use Rattle.problem.proofs.Places.{listed-lt}
+use Rattle.problem.proofs.Places.{listed_lt}
 use Rattle.words.specs.Places.{tri}
 use Rattle.words.specs.Layout.{word, ChangedOnly, index_of}
 use Rattle.words.specs.Links.{link_of, Links}
 use Rattle.words.specs.Links.Links.{none}
-use Rattle.words.proofs.ChangedOnly.{only-refl, only-trans, only_set, only-widen}
-use Rattle.words.proofs.Indexed.{index-unlisted, index_listed, unlisted-index, listed-index}
-use Rattle.problem.proofs.Starts.{start-few}
-use Rattle.words.proofs.Links.{links-bounds, links-stay, links-past, links-link}
+use Rattle.words.proofs.ChangedOnly.{only_refl, only_trans, only_set, only_widen}
+use Rattle.words.proofs.Indexed.{index_unlisted, index_listed, unlisted_index, listed_index}
+use Rattle.problem.proofs.Starts.{start_few}
+use Rattle.words.proofs.Links.{links_bounds, links_stay, links_past, links_link}
 
 -- ---- the link that an index word gives
 module _ (t : Tables) (h i index : ℕ) (e : index ≡ index_of t h i) where
   -- the link, as the code finds it
-  link-found : 0 < index → (index - 1) * 64 + h ≡ link_of t h i
-  link-found pos = omega (arith, index_listed t h i index e (listed-index t h i index e pos))
+  link_found : 0 < index → (index - 1) * 64 + h ≡ link_of t h i
+  link_found pos = omega (arith, index_listed t h i index e (listed_index t h i index e pos))
 
-  index-few : Sane t → index ≤ 129025
-  index-few s = by (isListed t.pairs h i) refl
+  index_few : Sane t → index ≤ 129025
+  index_few s = by (is_listed t.pairs h i) refl
     where
-      by : (b : Bool) → isListed t.pairs h i ≡ b → index ≤ 129025
-      by false l = omega (arith, index-unlisted t h i index e l)
+      by : (b : Bool) → is_listed t.pairs h i ≡ b → index ≤ 129025
+      by false l = omega (arith, index_unlisted t h i index e l)
       by true l =
-          let q = listed-lt t.pairs h i l in
-          omega (arith, index_listed t h i index e l, s.fewPairs, start-few t s (place t.pairs h i) (omega arith))
+          let q = listed_lt t.pairs h i l in
+          omega (arith, index_listed t h i index e l, s.few_pairs, start_few t s (place t.pairs h i) (omega arith))
 
 -- ---- one boat's row
 -- before boat h, whose link would be at 512 + to
@@ -42,44 +42,44 @@ pub record RowTo (t : Tables) (w₀ w : List ℕ) (i from to h : ℕ) : Type 0 w
   pub links : Links t w i h 0 from to
   pub only : ChangedOnly (512 + from) (512 + to) w₀ w
 
-pub row-none : {t : Tables} (w : List ℕ) (i from : ℕ) → RowTo t w w i from from 0
-row-none w i from = record { up_to = omega arith; links = none; only = only-refl (512 + from) (512 + from) w }
+pub row_none : {t : Tables} (w : List ℕ) (i from : ℕ) → RowTo t w w i from from 0
+row_none w i from = record { up_to = omega arith; links = none; only = only_refl (512 + from) (512 + from) w }
 
 module _ {t : Tables} {w₀ w : List ℕ} {i from to h : ℕ} (b : RowTo t w₀ w i from to h) where
   -- no word is lost that is still to be read
-  pub row-bounds : (from ≤ to) × (to ≤ from + h)
-  row-bounds = let q = links-bounds b.links in omega arith
+  pub row_bounds : (from ≤ to) × (to ≤ from + h)
+  row_bounds = let q = links_bounds b.links in omega arith
 
   module _ {row : ℕ} (low : from ≤ tri i) (er : row ≡ 512 + tri i) (d : word w₀ (512 + tri i + h) ≡ index_of t h i) where
-    index-here : word w (row + h) ≡ index_of t h i
-    index-here = ap (λ (n : ℕ). word w (n + h)) er ∙ b.only.others (512 + tri i + h) (inr (omega (arith, row-bounds))) ∙ d
+    index_here : word w (row + h) ≡ index_of t h i
+    index_here = ap (λ (n : ℕ). word w (n + h)) er ∙ b.only.others (512 + tri i + h) (inr (omega (arith, row_bounds))) ∙ d
 
-    pub row-index-few : Sane t → word w (row + h) ≤ 129025
-    row-index-few = index-few t h i _ index-here
+    pub row_index_few : Sane t → word w (row + h) ≤ 129025
+    row_index_few = index_few t h i _ index_here
 
-    pub row-past : h < i → word w (row + h) ≡ 0 → RowTo t w₀ w i from to (h + 1)
-    row-past lh z =
+    pub row_past : h < i → word w (row + h) ≡ 0 → RowTo t w₀ w i from to (h + 1)
+    row_past lh z =
         record {
           up_to = omega arith;
-          links = rw (add-one h) (links-past (unlisted-index t h i _ index-here z) b.links);
+          links = rw (add-one h) (links_past (unlisted_index t h i _ index_here z) b.links);
           only = b.only;
         }
 
-    pub row-link : h < i → 0 < word w (row + h) → 512 + to < length w → RowTo t w₀ (set w (512 + to) ((word w (row + h) - 1) * 64 + h)) i from (to + 1) (h + 1)
-    row-link lh pos lt =
+    pub row_link : h < i → 0 < word w (row + h) → 512 + to < length w → RowTo t w₀ (set w (512 + to) ((word w (row + h) - 1) * 64 + h)) i from (to + 1) (h + 1)
+    row_link lh pos lt =
         let v = (word w (row + h) - 1) * 64 + h in
-        let q = row-bounds in
+        let q = row_bounds in
         record {
           up_to = omega arith;
           links =
-              rw (add-one h, add-one to) (links-link (listed-index t h i _ index-here pos)
-              (get_or-set_same w (512 + to) v 0 lt ∙ link-found t h i _ index-here pos)
-              (links-stay (λ k lo hi. get_or-set_other w (512 + to) (512 + k) v 0 (omega arith)) b.links));
-          only = only-trans (only-widen (omega arith) (omega arith) b.only) (only_set w (512 + to) v (omega arith) (omega arith));
+              rw (add-one h, add-one to) (links_link (listed_index t h i _ index_here pos)
+              (get_or-set_same w (512 + to) v 0 lt ∙ link_found t h i _ index_here pos)
+              (links_stay (λ k lo hi. get_or-set_other w (512 + to) (512 + k) v 0 (omega arith)) b.links));
+          only = only_trans (only_widen (omega arith) (omega arith) b.only) (only_set w (512 + to) v (omega arith) (omega arith));
         }
 
-  pub row-all : from ≤ tri i → i ≤ h → ((to ≤ from + i) × Links t w i i 0 from to) × ChangedOnly (512 + from) (512 + tri i + i) w₀ w
-  row-all low le =
+  pub row_all : from ≤ tri i → i ≤ h → ((to ≤ from + i) × Links t w i i 0 from to) × ChangedOnly (512 + from) (512 + tri i + i) w₀ w
+  row_all low le =
       let e : h ≡ i = omega arith in
-      let q = row-bounds in
-      ((omega arith, rw e at b.links), only-widen (omega arith) (omega arith) b.only)
+      let q = row_bounds in
+      ((omega arith, rw e at b.links), only_widen (omega arith) (omega arith) b.only)

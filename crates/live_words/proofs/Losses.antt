@@ -10,8 +10,8 @@ use lib.Pow.{pow_mono}
 use borrow.Author.Tests.{eq-eqb, ne_eqb, lt-ltb, le-ltb}
 use Rattle.problem.specs.Tables.{Tables}
 use Rattle.words.specs.Sets.{WithMember}
-use Rattle.words.proofs.Bits.{bit-zero}
-use Rattle.live_words.specs.Lives.{leftWord, LostAt}
+use Rattle.words.proofs.Bits.{bit_zero}
+use Rattle.live_words.specs.Lives.{left_word, LostAt}
 
 -- a test of the boats below g, and of g
 module _ (g h : ℕ) (d : Bool) where
@@ -34,14 +34,14 @@ module _ (g h : ℕ) (d : Bool) where
 module _ (t : Tables) (w : List ℕ) (j : ℕ) where
   -- boat g struck a slot of boat j
   abbrev struck : (g : ℕ) → Bool
-  struck g = not (eqb (leftWord t w g j) (leftWord t w (suc g) j))
+  struck g = not (eqb (left_word t w g j) (left_word t w (suc g) j))
 
-  pub lost-none : LostAt t w 0 j 0
-  lost-none = record { members = λ g. bit-zero g ∙ sym (ap (λ (x : Bool). x && struck g) (le-ltb g 0 (omega arith))); below = omega arith }
+  pub lost_none : LostAt t w 0 j 0
+  lost_none = record { members = λ g. bit_zero g ∙ sym (ap (λ (x : Bool). x && struck g) (le-ltb g 0 (omega arith))); below = omega arith }
 
   module _ {i s : ℕ} (l : LostAt t w i j s) where
-    pub lost-more : (leftWord t w i j ≡ leftWord t w (suc i) j → ⊥) → {r : ℕ} → WithMember s i r → LostAt t w (suc i) j r
-    lost-more ne m =
+    pub lost_more : (left_word t w i j ≡ left_word t w (suc i) j → ⊥) → {r : ℕ} → WithMember s i r → LostAt t w (suc i) j r
+    lost_more ne m =
         record {
           members = λ h.
               m.members h ∙ ap (λ (x : Bool). x || eqb h i) (l.members h)
@@ -49,15 +49,15 @@ module _ (t : Tables) (w : List ℕ) (j : ℕ) where
           below = m.below (suc i) (omega arith) (omega (arith, l.below, pow_mono {i = i} {j = suc i} (omega arith)));
         }
 
-    pub lost-same : leftWord t w i j ≡ leftWord t w (suc i) j → LostAt t w (suc i) j s
-    lost-same e =
+    pub lost_same : left_word t w i j ≡ left_word t w (suc i) j → LostAt t w (suc i) j s
+    lost_same e =
         record {
           members = λ h. l.members h ∙ kept i h (struck h) (λ f. rw (f, eq-eqb _ _ e));
           below = omega (arith, l.below, pow_mono {i = i} {j = suc i} (omega arith));
         }
 
-pub lost-stays : {t : Tables} {w w' : List ℕ} {i j r : ℕ} → ((k : ℕ) → k ≤ i → leftWord t w' k j ≡ leftWord t w k j) → LostAt t w i j r → LostAt t w' i j r
-lost-stays {t} {w} {w'} {i} {j} same l = record { members = λ g. l.members g ∙ by g (dec_lt g i); below = l.below }
+pub lost_stays : {t : Tables} {w w' : List ℕ} {i j r : ℕ} → ((k : ℕ) → k ≤ i → left_word t w' k j ≡ left_word t w k j) → LostAt t w i j r → LostAt t w' i j r
+lost_stays {t} {w} {w'} {i} {j} same l = record { members = λ g. l.members g ∙ by g (dec_lt g i); below = l.below }
   where
     by : (g : ℕ) → Dec (g < i) → (ltb g i && struck t w j g) ≡ (ltb g i && struck t w' j g)
     by g (yes h) = rw (same g (omega arith), same (suc g) (omega arith))

@@ -1,8 +1,8 @@
 // The boats to blame for what a live word lacks: those that struck a slot, in a word beside it.
 ghost use Rattle.std.specs.Prelude.{◌≡◌, suc};
 ghost use Rattle.problem.specs.Tables.{Tables, tables};
-ghost use Rattle.words.specs.Places.{used, liveAt, blameAt};
-ghost use Rattle.words.specs.Layout.{firstPair, ChangedOnly};
+ghost use Rattle.words.specs.Places.{used, live_at, blame_at};
+ghost use Rattle.words.specs.Layout.{first_pair, ChangedOnly};
 ghost use Rattle.live_words.specs.Lives.{Blames};
 ghost use Rattle.live_words.specs.Kept.{BlamesKept, Blaming};
 
@@ -16,7 +16,7 @@ fn blame_listed(sizes: &[u8], pairs: &[u8], rows: &[u64], i: usize, work: &mut [
     requires blaming { Blaming t work.old i }
     requires blames { Blames t work.old i }
     ensures blames_2 { Blames t work.new (suc i) }
-    ensures changed_only { ChangedOnly (blameAt (liveAt (firstPair t.pairs i))) used work.old work.new }
+    ensures changed_only { ChangedOnly (blame_at (live_at (first_pair t.pairs i))) used work.old work.new }
 {
     let end = work[Words::ENDS + i] as usize;
     let mut pair = work[Words::STARTS + i] as usize;
@@ -44,7 +44,7 @@ pub fn blame(
     requires blaming { Blaming t work.old i }
     requires blames_kept { BlamesKept backward t work.old i }
     ensures blames_kept_2 { BlamesKept backward t work.new (suc i) }
-    ensures changed_only { ChangedOnly (blameAt (liveAt (firstPair t.pairs i))) used work.old work.new }
+    ensures changed_only { ChangedOnly (blame_at (live_at (first_pair t.pairs i))) used work.old work.new }
 {
     match backward {
         Backward::OneBack => {}

@@ -8,13 +8,13 @@ use native.Mathlib.Omega.{arith}
 use lib.ListN.{length, get_or, take, drop, set, length-append, length-take, length-drop, take-append-drop}
 use lib.Seq.{drop-cons, drop-drop, get_or-drop, length-take-le, set_at, take-add, take-suc}
 use Rattle.files.specs.Bytes.{number, words_of}
-use Rattle.files.proofs.Bytes.{words-length, words_last}
+use Rattle.files.proofs.Bytes.{words_length, words_last}
 
 -- the number of some bytes, by the first of them
-next-number : (file : List ℕ) (at i k : ℕ) → at + i < length file
+next_number : (file : List ℕ) (at i k : ℕ) → at + i < length file
     → number (take (suc k) (drop (at + i) file)) ≡ get_or file (at + i) 0 + 256 * number (take k (drop (at + suc i) file))
 unfolding number
-next-number file at i k l =
+next_number file at i k l =
     ap (λ bytes. number (take (suc k) bytes)) (drop-cons file (at + i) 0 l)
     ∙ ap (λ j. get_or file (at + i) 0 + 256 * number (take k (drop j file))) (sym (add-suc at i))
 
@@ -29,20 +29,20 @@ word_number file at l =
     let first : get_or file at 0 ≡ get_or file (at + 0) 0 = ap (λ j. get_or file j 0) same in
     omega (
       arith,
-      next-number file at 0 7 (omega arith),
-      next-number file at 1 6 (omega arith),
-      next-number file at 2 5 (omega arith),
-      next-number file at 3 4 (omega arith),
-      next-number file at 4 3 (omega arith),
-      next-number file at 5 2 (omega arith),
-      next-number file at 6 1 (omega arith),
-      next-number file at 7 0 (omega arith),
+      next_number file at 0 7 (omega arith),
+      next_number file at 1 6 (omega arith),
+      next_number file at 2 5 (omega arith),
+      next_number file at 3 4 (omega arith),
+      next_number file at 4 3 (omega arith),
+      next_number file at 5 2 (omega arith),
+      next_number file at 6 1 (omega arith),
+      next_number file at 7 0 (omega arith),
     )
 
 -- ---- one more entry behind what is written
-pub written-more : (front rest : List ℕ) (at w : ℕ) → length front ≡ at → 0 < length rest → set (front ++ rest) at w ≡ (front ++ (w ∷ [])) ++ drop 1 rest
-written-more front [] at w e l = absurd (omega arith)
-written-more front (x ∷ rest) at w e l = set_at front x rest w at e ∙ sym (append_assoc front (w ∷ []) rest)
+pub written_more : (front rest : List ℕ) (at w : ℕ) → length front ≡ at → 0 < length rest → set (front ++ rest) at w ≡ (front ++ (w ∷ [])) ++ drop 1 rest
+written_more front [] at w e l = absurd (omega arith)
+written_more front (x ∷ rest) at w e l = set_at front x rest w at e ∙ sym (append_assoc front (w ∷ []) rest)
 
 -- one more word
 pub words_more : (file : List ℕ) (at k : ℕ) → at + 8 * k + 8 ≤ length file
@@ -57,50 +57,50 @@ words_more file at k l =
     (length-take-le 8 (drop (at + 8 * k) file) (omega (arith, length-drop (at + 8 * k) file))))
 
 -- ---- k words of a PR are written behind the first rows
-pub rowsWith : (file : List ℕ) (at : ℕ) (rows₀ : List ℕ) (first k : ℕ) → List ℕ
-rowsWith file at rows₀ first k = (take first rows₀ ++ words_of k (take (8 * k) (drop at file))) ++ drop (first + k) rows₀
+pub rows_with : (file : List ℕ) (at : ℕ) (rows₀ : List ℕ) (first k : ℕ) → List ℕ
+rows_with file at rows₀ first k = (take first rows₀ ++ words_of k (take (8 * k) (drop at file))) ++ drop (first + k) rows₀
 
 module _ (file : List ℕ) (at : ℕ) (rows₀ : List ℕ) (first : ℕ) where
-  pub rows-begin : rows₀ ≡ rowsWith file at rows₀ first 0
-  unfolding rowsWith words_of
-  rows-begin =
+  pub rows_begin : rows₀ ≡ rows_with file at rows₀ first 0
+  unfolding rows_with words_of
+  rows_begin =
       sym (ap₂ ◌++◌ (append-nil (take first rows₀)) (ap (λ n. drop n rows₀) (add-zero first)) ∙ take-append-drop first rows₀)
 
   pub rows_more : (k : ℕ) → at + 8 * k + 8 ≤ length file → first + k < length rows₀
-      → set (rowsWith file at rows₀ first k) (first + k) (number (take 8 (drop (at + 8 * k) file))) ≡ rowsWith file at rows₀ first (k + 1)
-  unfolding rowsWith
+      → set (rows_with file at rows₀ first k) (first + k) (number (take 8 (drop (at + 8 * k) file))) ≡ rows_with file at rows₀ first (k + 1)
+  unfolding rows_with
   rows_more k l m =
       let front : length (take first rows₀ ++ words_of k (take (8 * k) (drop at file))) ≡ first + k =
       length-append (take first rows₀) (words_of k (take (8 * k) (drop at file)))
-      ∙ ap₂ ◌+◌ (length-take-le first rows₀ (omega arith)) (words-length k (take (8 * k) (drop at file))) in
-      written-more (take first rows₀ ++ words_of k (take (8 * k) (drop at file))) (drop (first + k) rows₀) (first + k) (number (take 8 (drop (at + 8 * k) file)))
+      ∙ ap₂ ◌+◌ (length-take-le first rows₀ (omega arith)) (words_length k (take (8 * k) (drop at file))) in
+      written_more (take first rows₀ ++ words_of k (take (8 * k) (drop at file))) (drop (first + k) rows₀) (first + k) (number (take 8 (drop (at + 8 * k) file)))
       front (omega (arith, length-drop (first + k) rows₀))
       ∙ ap₂ ◌++◌
       (append_assoc (take first rows₀) (words_of k (take (8 * k) (drop at file))) (number (take 8 (drop (at + 8 * k) file)) ∷ [])
       ∙ ap (λ ws. take first rows₀ ++ ws) (words_more file at k l ∙ ap (λ n. words_of n (take (8 * n) (drop at file))) (sym (add-one k))))
       (drop-drop 1 (first + k) rows₀ ∙ ap (λ n. drop n rows₀) (add_assoc first k 1))
 
-  pub rows-done : (k : ℕ) → rowsWith file at rows₀ first k ≡ take first rows₀ ++ (words_of k (take (8 * k) (drop at file)) ++ drop (first + k) rows₀)
-  unfolding rowsWith
-  rows-done k = append_assoc (take first rows₀) (words_of k (take (8 * k) (drop at file))) (drop (first + k) rows₀)
+  pub rows_done : (k : ℕ) → rows_with file at rows₀ first k ≡ take first rows₀ ++ (words_of k (take (8 * k) (drop at file)) ++ drop (first + k) rows₀)
+  unfolding rows_with
+  rows_done k = append_assoc (take first rows₀) (words_of k (take (8 * k) (drop at file))) (drop (first + k) rows₀)
 
-  pub rows-length : (k : ℕ) → first + k ≤ length rows₀ → length (rowsWith file at rows₀ first k) ≡ length rows₀
-  rows-length k l =
-      ap length (rows-done k)
+  pub rows_length : (k : ℕ) → first + k ≤ length rows₀ → length (rows_with file at rows₀ first k) ≡ length rows₀
+  rows_length k l =
+      ap length (rows_done k)
       ∙ length-append (take first rows₀) (words_of k (take (8 * k) (drop at file)) ++ drop (first + k) rows₀)
       ∙ omega (
         arith,
         length-take-le first rows₀ (omega arith),
         length-append (words_of k (take (8 * k) (drop at file))) (drop (first + k) rows₀),
-        words-length k (take (8 * k) (drop at file)),
+        words_length k (take (8 * k) (drop at file)),
         length-drop (first + k) rows₀,
       )
 
 -- ---- one more size
-pub sizes-more : (file sizes₀ : List ℕ) (i : ℕ) → 3 + i < length file → i < length sizes₀
+pub sizes_more : (file sizes₀ : List ℕ) (i : ℕ) → 3 + i < length file → i < length sizes₀
     → set (take i (drop 3 file) ++ drop i sizes₀) i (get_or file (3 + i) 0) ≡ take (i + 1) (drop 3 file) ++ drop (i + 1) sizes₀
-sizes-more file sizes₀ i l m =
-    written-more (take i (drop 3 file)) (drop i sizes₀) i (get_or file (3 + i) 0)
+sizes_more file sizes₀ i l m =
+    written_more (take i (drop 3 file)) (drop i sizes₀) i (get_or file (3 + i) 0)
     (length-take-le i (drop 3 file) (omega (arith, length-drop 3 file))) (omega (arith, length-drop i sizes₀))
     ∙ ap₂ ◌++◌
     (ap (λ b. take i (drop 3 file) ++ (b ∷ [])) (sym (get_or-drop 3 file i 0))

@@ -9,110 +9,110 @@ use lib.Seq.{take_at, drop-append-add, drop-drop}
 use Rattle.problem.specs.Tables.{Tables}
 use Rattle.files.specs.Bytes.{words_of}
 use Rattle.files.specs.File.{PR}
-use Rattle.files.specs.Reading.{read, pairsDue, same, readFrom}
-use Rattle.scanning.specs.Scanning.{GoesOn, fromSizes}
+use Rattle.files.specs.Reading.{read, pairs_due, same, read_from}
+use Rattle.scanning.specs.Scanning.{GoesOn, from_sizes}
 use Rattle.loading.specs.Loading.{Fitting, Filled}
-use Rattle.files.proofs.Bytes.{words-length}
-use Rattle.scanning.proofs.Scanning.{AtMark, pass-begins}
-use Rattle.loading.proofs.Filling.{written-more}
-use Rattle.loading.proofs.Sure.{sure-mark, sure-end, sure-lower, sure-there, sure-words, sure-on, sure-room}
+use Rattle.files.proofs.Bytes.{words_length}
+use Rattle.scanning.proofs.Scanning.{AtMark, pass_begins}
+use Rattle.loading.proofs.Filling.{written_more}
+use Rattle.loading.proofs.Sure.{sure_mark, sure_end, sure_lower, sure_there, sure_words, sure_on, sure_room}
 
 pub record AtPair (file : List ℕ) (boats : ℕ) (pairs₀ rows₀ : List ℕ) (at k word : ℕ) (pairs rows : List ℕ) : Type 0 where
   pub mark : AtMark file boats at k word
-  pub pairsAre : pairs ≡ mark.tables.pairs ++ drop (2 * k) pairs₀
-  pub rowsAre : rows ≡ mark.tables.rows ++ drop word rows₀
-  pub pairsLong : length pairs ≡ length pairs₀
-  pub rowsLong : length rows ≡ length rows₀
+  pub pairs_are : pairs ≡ mark.tables.pairs ++ drop (2 * k) pairs₀
+  pub rows_are : rows ≡ mark.tables.rows ++ drop word rows₀
+  pub pairs_long : length pairs ≡ length pairs₀
+  pub rows_long : length rows ≡ length rows₀
 
-pub second-begins : (file : List ℕ) (boats : ℕ) (pairs₀ rows₀ : List ℕ) → 3 + boats ≤ length file → AtPair file boats pairs₀ rows₀ (3 + boats) 0 0 pairs₀ rows₀
-unfolding pass-begins
-second-begins file boats pairs₀ rows₀ l = record { mark = pass-begins file boats l; pairsAre = refl; rowsAre = refl; pairsLong = refl; rowsLong = refl }
+pub second_begins : (file : List ℕ) (boats : ℕ) (pairs₀ rows₀ : List ℕ) → 3 + boats ≤ length file → AtPair file boats pairs₀ rows₀ (3 + boats) 0 0 pairs₀ rows₀
+unfolding pass_begins
+second_begins file boats pairs₀ rows₀ l = record { mark = pass_begins file boats l; pairs_are = refl; rows_are = refl; pairs_long = refl; rows_long = refl }
 
 module _ (file : List ℕ) (boats : ℕ) (pairs₀ rows₀ : List ℕ) (f : Fitting file boats (length pairs₀) (length rows₀)) (at k word : ℕ) (pairs rows : List ℕ)
     (a : AtPair file boats pairs₀ rows₀ at k word pairs rows) where
-  onward : readFrom at pairsDue a.mark.tables (drop at file) ≡ read f.tables
-  onward = sym a.mark.is ∙ f.isRead
+  onward : read_from at pairs_due a.mark.tables (drop at file) ≡ read f.tables
+  onward = sym a.mark.is ∙ f.is_read
 
-  pub mark-there : at + 2 ≤ length file
-  mark-there = sure-mark file at boats k word a.mark.inside a.mark.front a.mark.tables a.mark.so_far f.tables onward
+  pub mark_there : at + 2 ≤ length file
+  mark_there = sure_mark file at boats k word a.mark.inside a.mark.front a.mark.tables a.mark.so_far f.tables onward
 
-  pub second-ends : same (take 2 (drop at file)) PR ≡ false → Filled file boats pairs₀ rows₀ pairs rows
-  second-ends other = record {
-    pairsWritten = λ t e.
+  pub second_ends : same (take 2 (drop at file)) PR ≡ false → Filled file boats pairs₀ rows₀ pairs rows
+  second_ends other = record {
+    pairs_written = λ t e.
         let q : a.mark.tables ≡ t = all t e in
-        a.pairsAre ∙ ap (λ n. a.mark.tables.pairs ++ drop n pairs₀) (sym a.mark.so_far.pairBytes) ∙ ap (λ s. s.pairs ++ drop (length s.pairs) pairs₀) q;
-    rowsWritten = λ t e.
+        a.pairs_are ∙ ap (λ n. a.mark.tables.pairs ++ drop n pairs₀) (sym a.mark.so_far.pair_bytes) ∙ ap (λ s. s.pairs ++ drop (length s.pairs) pairs₀) q;
+    rows_written = λ t e.
         let q : a.mark.tables ≡ t = all t e in
-        a.rowsAre ∙ ap (λ n. a.mark.tables.rows ++ drop n rows₀) (sym a.mark.so_far.rowWords) ∙ ap (λ s. s.rows ++ drop (length s.rows) rows₀) q;
+        a.rows_are ∙ ap (λ n. a.mark.tables.rows ++ drop n rows₀) (sym a.mark.so_far.row_words) ∙ ap (λ s. s.rows ++ drop (length s.rows) rows₀) q;
   }
     where
-      all : (t : Tables) → fromSizes file boats ≡ read t → a.mark.tables ≡ t
-      all t e = sure-end file at boats k word a.mark.inside a.mark.front a.mark.tables a.mark.so_far t (sym a.mark.is ∙ e) other
+      all : (t : Tables) → from_sizes file boats ≡ read t → a.mark.tables ≡ t
+      all t e = sure_end file at boats k word a.mark.inside a.mark.front a.mark.tables a.mark.so_far t (sym a.mark.is ∙ e) other
 
   module _ (pr : same (take 2 (drop at file)) PR ≡ true) where
-    pub lower-there : at + 3 ≤ length file
-    lower-there = sure-lower file at boats k word a.mark.inside a.mark.front a.mark.tables a.mark.so_far f.tables onward pr
+    pub lower_there : at + 3 ≤ length file
+    lower_there = sure_lower file at boats k word a.mark.inside a.mark.front a.mark.tables a.mark.so_far f.tables onward pr
 
     module _ (l : ℕ) (is : l ≡ get_or file (at + 2) 0) where
-      pub boat-there : l < boats
-      boat-there = sure-there file at boats k word a.mark.inside a.mark.front a.mark.tables a.mark.so_far f.tables onward pr l is
+      pub boat_there : l < boats
+      boat_there = sure_there file at boats k word a.mark.inside a.mark.front a.mark.tables a.mark.so_far f.tables onward pr l is
 
       module _ (slots : ℕ) (are : slots ≡ get_or file (3 + l) 0) where
-        pub words-there : at + (4 + 8 * slots) ≤ length file
-        words-there = sure-words file at boats k word a.mark.inside a.mark.front a.mark.tables a.mark.so_far f.tables onward pr l is slots are
+        pub words_there : at + (4 + 8 * slots) ≤ length file
+        words_there = sure_words file at boats k word a.mark.inside a.mark.front a.mark.tables a.mark.so_far f.tables onward pr l is slots are
 
         pub room : (2 * k + 2 ≤ length pairs₀) × (word + slots ≤ length rows₀)
         room =
-            let r = sure-room file at boats k word a.mark.inside a.mark.front a.mark.tables a.mark.so_far f.tables onward pr l is slots are in
-            (omega (arith, r.0, f.pairsFit), omega (arith, r.1, f.rowsFit))
+            let r = sure_room file at boats k word a.mark.inside a.mark.front a.mark.tables a.mark.so_far f.tables onward pr l is slots are in
+            (omega (arith, r.0, f.pairs_fit), omega (arith, r.1, f.rows_fit))
 
         on : GoesOn file boats at k slots word a.mark.tables
-        on = sure-on file at boats k word a.mark.inside a.mark.front a.mark.tables a.mark.so_far f.tables onward pr l is slots are
+        on = sure_on file at boats k word a.mark.inside a.mark.front a.mark.tables a.mark.so_far f.tables onward pr l is slots are
 
         pair_set : (x y : ℕ) → set (set pairs (2 * k) x) (2 * k + 1) y ≡ (a.mark.tables.pairs ++ (x ∷ y ∷ [])) ++ drop (2 * (k + 1)) pairs₀
         pair_set x y =
             let s : List ℕ = a.mark.tables.pairs in
             let next : 2 * k + 1 + 1 ≡ 2 * (k + 1) = omega arith in
-            ap (λ l. set (set l (2 * k) x) (2 * k + 1) y) a.pairsAre
-            ∙ ap (λ l. set l (2 * k + 1) y) (written-more s (drop (2 * k) pairs₀) (2 * k) x a.mark.so_far.pairBytes (omega (arith, length-drop (2 * k) pairs₀, room.0)))
+            ap (λ l. set (set l (2 * k) x) (2 * k + 1) y) a.pairs_are
+            ∙ ap (λ l. set l (2 * k + 1) y) (written_more s (drop (2 * k) pairs₀) (2 * k) x a.mark.so_far.pair_bytes (omega (arith, length-drop (2 * k) pairs₀, room.0)))
             ∙ ap (λ l. set ((s ++ (x ∷ [])) ++ l) (2 * k + 1) y) (drop-drop 1 (2 * k) pairs₀)
-            ∙ written-more (s ++ (x ∷ [])) (drop (2 * k + 1) pairs₀) (2 * k + 1) y (omega (arith, length-append s (x ∷ []), a.mark.so_far.pairBytes))
+            ∙ written_more (s ++ (x ∷ [])) (drop (2 * k + 1) pairs₀) (2 * k + 1) y (omega (arith, length-append s (x ∷ []), a.mark.so_far.pair_bytes))
             (omega (arith, length-drop (2 * k + 1) pairs₀, room.0))
             ∙ ap₂ ◌++◌ (append_assoc s (x ∷ []) (y ∷ [])) (drop-drop 1 (2 * k + 1) pairs₀ ∙ ap (λ n. drop n pairs₀) next)
 
-        rows-set : (content : List ℕ) → take word rows ++ (content ++ drop (word + slots) rows) ≡ (a.mark.tables.rows ++ content) ++ drop (word + slots) rows₀
-        rows-set content =
+        rows_set : (content : List ℕ) → take word rows ++ (content ++ drop (word + slots) rows) ≡ (a.mark.tables.rows ++ content) ++ drop (word + slots) rows₀
+        rows_set content =
             let s : List ℕ = a.mark.tables.rows in
-            let front : take word rows ≡ s = ap (take word) a.rowsAre ∙ take_at s (drop word rows₀) word a.mark.so_far.rowWords in
+            let front : take word rows ≡ s = ap (take word) a.rows_are ∙ take_at s (drop word rows₀) word a.mark.so_far.row_words in
             let back : drop (word + slots) rows ≡ drop (word + slots) rows₀ =
-            ap₂ (λ n l. drop (n + slots) l) (sym a.mark.so_far.rowWords) a.rowsAre ∙ drop-append-add s (drop word rows₀) slots ∙ drop-drop slots word rows₀ in
+            ap₂ (λ n l. drop (n + slots) l) (sym a.mark.so_far.row_words) a.rows_are ∙ drop-append-add s (drop word rows₀) slots ∙ drop-drop slots word rows₀ in
             ap₂ (λ b c. b ++ (content ++ c)) front back ∙ sym (append_assoc s content (drop (word + slots) rows₀))
 
-        pub second-steps : (rows' : List ℕ) → rows' ≡ take word rows ++ (words_of slots (take (8 * slots) (drop (at + 4) file)) ++ drop (word + slots) rows)
+        pub second_steps : (rows' : List ℕ) → rows' ≡ take word rows ++ (words_of slots (take (8 * slots) (drop (at + 4) file)) ++ drop (word + slots) rows)
             → AtPair file boats pairs₀ rows₀ (at + (4 + 8 * slots)) (k + 1) (word + slots) (set (set pairs (2 * k) (get_or file (at + 2) 0)) (2 * k + 1) (get_or file (at + 3) 0)) rows'
-        second-steps rows' e =
+        second_steps rows' e =
             let content : List ℕ = words_of slots (take (8 * slots) (drop (at + 4) file)) in
-            let written : rows' ≡ (a.mark.tables.rows ++ content) ++ drop (word + slots) rows₀ = e ∙ rows-set content in
+            let written : rows' ≡ (a.mark.tables.rows ++ content) ++ drop (word + slots) rows₀ = e ∙ rows_set content in
             record {
               mark = record {
-                inside = words-there;
+                inside = words_there;
                 front = omega (arith, a.mark.front);
                 few = omega (arith, a.mark.few);
                 tables = on.grown;
                 so_far = on.so_far;
                 is = a.mark.is ∙ on.on;
               };
-              pairsAre = pair_set (get_or file (at + 2) 0) (get_or file (at + 3) 0) ∙ ap (λ l. l ++ drop (2 * (k + 1)) pairs₀) (sym on.pairsAre);
-              rowsAre = written ∙ ap (λ l. l ++ drop (word + slots) rows₀) (sym on.rowsAre);
-              pairsLong = length-set (set pairs (2 * k) (get_or file (at + 2) 0)) (2 * k + 1) (get_or file (at + 3) 0) ∙ length-set pairs (2 * k) (get_or file (at + 2) 0) ∙ a.pairsLong;
-              rowsLong =
+              pairs_are = pair_set (get_or file (at + 2) 0) (get_or file (at + 3) 0) ∙ ap (λ l. l ++ drop (2 * (k + 1)) pairs₀) (sym on.pairs_are);
+              rows_are = written ∙ ap (λ l. l ++ drop (word + slots) rows₀) (sym on.rows_are);
+              pairs_long = length-set (set pairs (2 * k) (get_or file (at + 2) 0)) (2 * k + 1) (get_or file (at + 3) 0) ∙ length-set pairs (2 * k) (get_or file (at + 2) 0) ∙ a.pairs_long;
+              rows_long =
                   ap length written
                   ∙ omega (
                     arith,
                     length-append (a.mark.tables.rows ++ content) (drop (word + slots) rows₀),
                     length-append a.mark.tables.rows content,
-                    words-length slots (take (8 * slots) (drop (at + 4) file)),
-                    a.mark.so_far.rowWords,
+                    words_length slots (take (8 * slots) (drop (at + 4) file)),
+                    a.mark.so_far.row_words,
                     length-drop (word + slots) rows₀,
                     room.1,
                   );

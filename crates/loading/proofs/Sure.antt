@@ -11,137 +11,137 @@ use lib.ListN.{length, get_or, take, drop, length-append, length-drop}
 use lib.Seq.{length-take-le}
 use Rattle.problem.specs.Tables.{Tables, size}
 use Rattle.problem.specs.Replies.{refused}
-use Rattle.problem.proofs.Lowest.{not-both}
+use Rattle.problem.proofs.Lowest.{not_both}
 use Rattle.files.specs.Bytes.{words_of}
 use Rattle.files.specs.File.{SZ, PR}
-use Rattle.files.specs.Reading.{Reading, read, pairsDue, same, readFrom, reading}
-use Rattle.scanning.specs.Replies.{readingTold}
-use Rattle.scanning.specs.Scanning.{SoFar, GoesOn, fromSizes}
-use Rattle.files.proofs.Records.{PairOrEnd, pairs-due, same_refl}
-use Rattle.scanning.proofs.Meeting.{no-mark, no_lower, no-boat, no_words, pair-met, no-first-mark, no-sizes-mark, no_number, no-sizes, sizes-met}
+use Rattle.files.specs.Reading.{Reading, read, pairs_due, same, read_from, reading}
+use Rattle.scanning.specs.Replies.{reading_told}
+use Rattle.scanning.specs.Scanning.{SoFar, GoesOn, from_sizes}
+use Rattle.files.proofs.Records.{PairOrEnd, pairs_due_lem, same_refl}
+use Rattle.scanning.proofs.Meeting.{no_mark, no_lower, no_boat, no_words, pair_met, no_first_mark, no_sizes_mark, no_number, no_sizes, sizes_met}
 
-not-refused : (r : Reading) (t : Tables) (number place : ℕ) → r ≡ read t → readingTold r ≡ refused number place → ⊥
-not-refused r t number place e q = omega (arith, ap (λ w. w.number) (sym (ap readingTold e) ∙ q))
+not_refused : (r : Reading) (t : Tables) (number place : ℕ) → r ≡ read t → reading_told r ≡ refused number place → ⊥
+not_refused r t number place e q = omega (arith, ap (λ w. w.number) (sym (ap reading_told e) ∙ q))
 
 -- ---- what is read only grows
 abbrev Grows : Tables → Tables → Type 0
 Grows s t = (length s.pairs ≤ length t.pairs) × (length s.rows ≤ length t.rows) × (s.sizes ≡ t.sizes)
 
-grows : (most at : ℕ) (s : Tables) (bytes : List ℕ) (t : Tables) → length bytes ≤ most → readFrom at pairsDue s bytes ≡ read t → Grows s t
-grows zero at s bytes t l e = by (pairs-due at s bytes t e)
+grows : (most at : ℕ) (s : Tables) (bytes : List ℕ) (t : Tables) → length bytes ≤ most → read_from at pairs_due s bytes ≡ read t → Grows s t
+grows zero at s bytes t l e = by (pairs_due_lem at s bytes t e)
   where
     by : PairOrEnd s bytes t → Grows s t
     by (inl p) = absurd (omega (arith, ap length p.1))
     by (inr p) = absurd (omega (arith, ap length p.1))
-grows (suc most) at s bytes t l e = by (pairs-due at s bytes t e) (grows most)
+grows (suc most) at s bytes t l e = by (pairs_due_lem at s bytes t e) (grows most)
   where
-    by : PairOrEnd s bytes t → ((at : ℕ) (s : Tables) (bytes : List ℕ) (t : Tables) → length bytes ≤ most → readFrom at pairsDue s bytes ≡ read t → Grows s t) → Grows s t
+    by : PairOrEnd s bytes t → ((at : ℕ) (s : Tables) (bytes : List ℕ) (t : Tables) → length bytes ≤ most → read_from at pairs_due s bytes ≡ read t → Grows s t) → Grows s t
     by (inl p) rec =
         let q = p.2 in
-        let g = rec q.place _ q.rest t (omega (arith, ap length p.1, ap length q.parts, length-append q.words q.rest)) q.goesOn in
+        let g = rec q.place _ q.rest t (omega (arith, ap length p.1, ap length q.parts, length-append q.words q.rest)) q.goes_on in
         (omega (arith, g.0, length-append s.pairs (q.l ∷ q.h ∷ [])), omega (arith, g.1, length-append s.rows (words_of (size s.sizes q.l) q.words)), g.2)
     by (inr p) rec =
         (omega (arith, ap (λ u. length u.pairs) p.2.whole), omega (arith, ap (λ u. length u.rows) p.2.whole), ap (λ u. u.sizes) p.2.whole)
 
 module _ (file : List ℕ) (at n pairs words : ℕ) (inside : at ≤ length file) (front : 3 + n ≤ at) (s : Tables) (so : SoFar file n pairs words s) (t : Tables)
-    (e : readFrom at pairsDue s (drop at file) ≡ read t) where
-  pub sure-mark : at + 2 ≤ length file
-  sure-mark = by (ltb (length file) (at + 2)) refl
+    (e : read_from at pairs_due s (drop at file) ≡ read t) where
+  pub sure_mark : at + 2 ≤ length file
+  sure_mark = by (ltb (length file) (at + 2)) refl
     where
       by : (b : Bool) → ltb (length file) (at + 2) ≡ b → at + 2 ≤ length file
-      by true q = absurd (not-refused _ t 22 (length file) e (no-mark file at n inside front (ltb-true _ _ q) s))
+      by true q = absurd (not_refused _ t 22 (length file) e (no_mark file at n inside front (ltb-true _ _ q) s))
       by false q = ltb-false _ _ q
 
   -- where no PR comes, all is read
-  pub sure-end : same (take 2 (drop at file)) PR ≡ false → s ≡ t
-  sure-end q = by (pairs-due at s (drop at file) t e)
+  pub sure_end : same (take 2 (drop at file)) PR ≡ false → s ≡ t
+  sure_end q = by (pairs_due_lem at s (drop at file) t e)
     where
       by : PairOrEnd s (drop at file) t → s ≡ t
-      by (inl p) = absurd (not-both (ap (λ bytes. same (take 2 bytes) PR) p.1 ∙ same_refl PR) q)
+      by (inl p) = absurd (not_both (ap (λ bytes. same (take 2 bytes) PR) p.1 ∙ same_refl PR) q)
       by (inr p) = p.2.whole
 
   module _ (pr : same (take 2 (drop at file)) PR ≡ true) where
-    pub sure-lower : at + 3 ≤ length file
-    sure-lower = by (ltb (length file) (at + 3)) refl
+    pub sure_lower : at + 3 ≤ length file
+    sure_lower = by (ltb (length file) (at + 3)) refl
       where
         by : (b : Bool) → ltb (length file) (at + 3) ≡ b → at + 3 ≤ length file
-        by true q = absurd (not-refused _ t 22 (length file) e (no_lower file at n inside front sure-mark pr (ltb-true _ _ q) s))
+        by true q = absurd (not_refused _ t 22 (length file) e (no_lower file at n inside front sure_mark pr (ltb-true _ _ q) s))
         by false q = ltb-false _ _ q
 
     module _ (l : ℕ) (is : l ≡ get_or file (at + 2) 0) where
-      pub sure-there : l < n
-      sure-there = by (leb n l) refl
+      pub sure_there : l < n
+      sure_there = by (leb n l) refl
         where
           by : (b : Bool) → leb n l ≡ b → l < n
-          by true q = absurd (not-refused _ t 23 (at + 2) e (no-boat file at n inside front sure-mark pr sure-lower pairs words s so l is (leb-true _ _ q)))
+          by true q = absurd (not_refused _ t 23 (at + 2) e (no_boat file at n inside front sure_mark pr sure_lower pairs words s so l is (leb-true _ _ q)))
           by false q = leb-false _ _ q
 
       module _ (slots : ℕ) (are : slots ≡ get_or file (3 + l) 0) where
-        pub sure-words : at + (4 + 8 * slots) ≤ length file
-        sure-words = by (ltb (length file) (at + (4 + 8 * slots))) refl
+        pub sure_words : at + (4 + 8 * slots) ≤ length file
+        sure_words = by (ltb (length file) (at + (4 + 8 * slots))) refl
           where
             by : (b : Bool) → ltb (length file) (at + (4 + 8 * slots)) ≡ b → at + (4 + 8 * slots) ≤ length file
             by true q =
                 absurd
-                (not-refused _ t 22 (length file) e
-                (no_words file at n inside front sure-mark pr sure-lower pairs words s so l is sure-there slots are (ltb-true _ _ q)))
+                (not_refused _ t 22 (length file) e
+                (no_words file at n inside front sure_mark pr sure_lower pairs words s so l is sure_there slots are (ltb-true _ _ q)))
             by false q = ltb-false _ _ q
 
-        pub sure-on : GoesOn file n at pairs slots words s
-        sure-on = pair-met file at n inside front sure-mark pr sure-lower pairs words s so l is sure-there slots are sure-words
+        pub sure_on : GoesOn file n at pairs slots words s
+        sure_on = pair_met file at n inside front sure_mark pr sure_lower pairs words s so l is sure_there slots are sure_words
 
-        pub sure-read : readFrom (at + (4 + 8 * slots)) pairsDue sure-on.grown (drop (at + (4 + 8 * slots)) file) ≡ read t
-        sure-read = sym sure-on.on ∙ e
+        pub sure_read : read_from (at + (4 + 8 * slots)) pairs_due sure_on.grown (drop (at + (4 + 8 * slots)) file) ≡ read t
+        sure_read = sym sure_on.on ∙ e
 
         -- the tables have room for one pair and so many words more
-        pub sure-room : (2 * pairs + 2 ≤ length t.pairs) × (words + slots ≤ length t.rows)
-        sure-room =
-            let g = grows (length (drop (at + (4 + 8 * slots)) file)) (at + (4 + 8 * slots)) sure-on.grown (drop (at + (4 + 8 * slots)) file) t (omega arith) sure-read in
-            (omega (arith, g.0, sure-on.so_far.pairBytes), omega (arith, g.1, sure-on.so_far.rowWords))
+        pub sure_room : (2 * pairs + 2 ≤ length t.pairs) × (words + slots ≤ length t.rows)
+        sure_room =
+            let g = grows (length (drop (at + (4 + 8 * slots)) file)) (at + (4 + 8 * slots)) sure_on.grown (drop (at + (4 + 8 * slots)) file) t (omega arith) sure_read in
+            (omega (arith, g.0, sure_on.so_far.pair_bytes), omega (arith, g.1, sure_on.so_far.row_words))
 
 -- ---- from the start: the sizes, and the first mark after SZ
 pub record Started (file : List ℕ) (t : Tables) : Type 0 where
   pub front : 3 + length t.sizes ≤ length file
-  pub sizesAre : t.sizes ≡ take (length t.sizes) (drop 3 file)
-  pub isRead : fromSizes file (length t.sizes) ≡ read t
+  pub sizes_are : t.sizes ≡ take (length t.sizes) (drop 3 file)
+  pub is_read : from_sizes file (length t.sizes) ≡ read t
 
 module _ (file : List ℕ) (t : Tables) (e : reading file ≡ read t) where
-  two-there : 2 ≤ length file
-  two-there = by (ltb (length file) 2) refl
+  two_there : 2 ≤ length file
+  two_there = by (ltb (length file) 2) refl
     where
       by : (b : Bool) → ltb (length file) 2 ≡ b → 2 ≤ length file
-      by true q = absurd (not-refused _ t 22 (length file) e (no-first-mark file (ltb-true _ _ q)))
+      by true q = absurd (not_refused _ t 22 (length file) e (no_first_mark file (ltb-true _ _ q)))
       by false q = ltb-false _ _ q
 
-  is-sizes : same (take 2 file) SZ ≡ true
-  is-sizes = by (same (take 2 file) SZ) refl
+  is_sizes : same (take 2 file) SZ ≡ true
+  is_sizes = by (same (take 2 file) SZ) refl
     where
       by : (b : Bool) → same (take 2 file) SZ ≡ b → same (take 2 file) SZ ≡ true
       by true q = q
-      by false q = absurd (not-refused _ t 21 0 e (no-sizes-mark file two-there q))
+      by false q = absurd (not_refused _ t 21 0 e (no_sizes_mark file two_there q))
 
-  three-there : 3 ≤ length file
-  three-there = by (ltb (length file) 3) refl
+  three_there : 3 ≤ length file
+  three_there = by (ltb (length file) 3) refl
     where
       by : (b : Bool) → ltb (length file) 3 ≡ b → 3 ≤ length file
-      by true q = absurd (not-refused _ t 22 (length file) e (no_number file two-there is-sizes (ltb-true _ _ q)))
+      by true q = absurd (not_refused _ t 22 (length file) e (no_number file two_there is_sizes (ltb-true _ _ q)))
       by false q = ltb-false _ _ q
 
-  sizes-there : 3 + get_or file 2 0 ≤ length file
-  sizes-there = by (ltb (length file) (3 + get_or file 2 0)) refl
+  sizes_there : 3 + get_or file 2 0 ≤ length file
+  sizes_there = by (ltb (length file) (3 + get_or file 2 0)) refl
     where
       by : (b : Bool) → ltb (length file) (3 + get_or file 2 0) ≡ b → 3 + get_or file 2 0 ≤ length file
-      by true q = absurd (not-refused _ t 22 (length file) e (no-sizes file two-there is-sizes three-there (get_or file 2 0) refl (ltb-true _ _ q)))
+      by true q = absurd (not_refused _ t 22 (length file) e (no_sizes file two_there is_sizes three_there (get_or file 2 0) refl (ltb-true _ _ q)))
       by false q = ltb-false _ _ q
 
   pub started : Started file t
   started =
       let n : ℕ = get_or file 2 0 in
-      let on : fromSizes file n ≡ read t = sym (sizes-met file two-there is-sizes three-there n refl sizes-there) ∙ e in
+      let on : from_sizes file n ≡ read t = sym (sizes_met file two_there is_sizes three_there n refl sizes_there) ∙ e in
       let kept : take n (drop 3 file) ≡ t.sizes = (grows (length (drop (3 + n) file)) (3 + n) _ (drop (3 + n) file) t (omega arith) on).2 in
-      let long : n ≡ length t.sizes = sym (length-take-le n (drop 3 file) (omega (arith, length-drop 3 file, sizes-there))) ∙ ap length kept in
+      let long : n ≡ length t.sizes = sym (length-take-le n (drop 3 file) (omega (arith, length-drop 3 file, sizes_there))) ∙ ap length kept in
       record {
-        front = rw (← long) sizes-there;
-        sizesAre = sym kept ∙ ap (λ m. take m (drop 3 file)) long;
-        isRead = ap (fromSizes file) (sym long) ∙ on;
+        front = rw (← long) sizes_there;
+        sizes_are = sym kept ∙ ap (λ m. take m (drop 3 file)) long;
+        is_read = ap (from_sizes file) (sym long) ∙ on;
       }

@@ -8,41 +8,41 @@ use lib.ListN.{length, take}
 use Rattle.problem.specs.Tables.{Tables, boats, size, bit}
 use Rattle.events.specs.Events.{trial}
 use Rattle.methods.specs.Machine.{next, step}
-use Rattle.methods.specs.ByPlan.{isOpen, blamersOf, endOfOpen, aheadByPlan}
-use Rattle.words.specs.Sets.{setWords}
+use Rattle.methods.specs.ByPlan.{is_open, blamers_of, end_of_open, ahead_by_plan}
+use Rattle.words.specs.Sets.{set_words}
 use Rattle.visits.specs.declared.Backward.{Backward}
 use Rattle.visits.specs.declared.Backward.TheVariants.{BySets}
-use Rattle.visits.specs.Visits.{State, stepsOver, state}
-use Rattle.visits.proofs.Visiting.{trialOf, step-passes, step-fails, step-tries}
-use Rattle.sweeping.specs.Sweeps.{sweepOf}
+use Rattle.visits.specs.Visits.{State, steps_over, state}
+use Rattle.visits.proofs.Visiting.{trial_of, step_passes, step_fails, step_tries}
+use Rattle.sweeping.specs.Sweeps.{sweep_of}
 
-pub ahead-live : (t : Tables) (p : List ℕ) (a : ℕ) → (aheadByPlan t).live tt p a ≡ isOpen t p (length p) a
-unfolding aheadByPlan
-ahead-live t p a = refl
+pub ahead_live : (t : Tables) (p : List ℕ) (a : ℕ) → (ahead_by_plan t).live tt p a ≡ is_open t p (length p) a
+unfolding ahead_by_plan
+ahead_live t p a = refl
 
 module _ (t : Tables) (backward : Backward) (w : List ℕ) (i : ℕ) (le : i ≤ length w) (lt : i < boats t) (a s : ℕ) (la : a < size t.sizes i)
-    (live : (aheadByPlan t).live tt (take i w) a ≡ true) where
-  is-trial : trialOf t (aheadByPlan t) backward w i le lt a s la ≡ trial i a ∷ (sweepOf t (take i w) a).checks
-  unfolding aheadByPlan
-  is-trial = refl
+    (live : (ahead_by_plan t).live tt (take i w) a ≡ true) where
+  is_trial : trial_of t (ahead_by_plan t) backward w i le lt a s la ≡ trial i a ∷ (sweep_of t (take i w) a).checks
+  unfolding ahead_by_plan
+  is_trial = refl
 
-  judged : (x : Option ℕ) → (sweepOf t (take i w) a).emptied ≡ x → ((aheadByPlan t).trial tt (take i w) a).verdict ≡ endOfOpen t (take i w) x
-  unfolding aheadByPlan
-  judged x e = ap (endOfOpen t (take i w)) e
+  judged : (x : Option ℕ) → (sweep_of t (take i w) a).emptied ≡ x → ((ahead_by_plan t).trial tt (take i w) a).verdict ≡ end_of_open t (take i w) x
+  unfolding ahead_by_plan
+  judged x e = ap (end_of_open t (take i w)) e
 
   -- no boat is emptied: the slot passes
-  pub slot-passes : (sweepOf t (take i w) a).emptied ≡ none →
-      step t (stepsOver t (aheadByPlan t) backward) (take i w) a (state backward (setWords w i s))
-      ≡ next (trial i a ∷ (sweepOf t (take i w) a).checks) (take i w ++ (a ∷ [])) 0 (state backward (setWords w i s))
-  slot-passes e = rw is-trial at (step-passes t (aheadByPlan t) backward w i le lt a s la live tt (judged none e))
+  pub slot_passes : (sweep_of t (take i w) a).emptied ≡ none →
+      step t (steps_over t (ahead_by_plan t) backward) (take i w) a (state backward (set_words w i s))
+      ≡ next (trial i a ∷ (sweep_of t (take i w) a).checks) (take i w ++ (a ∷ [])) 0 (state backward (set_words w i s))
+  slot_passes e = rw is_trial at (step_passes t (ahead_by_plan t) backward w i le lt a s la live tt (judged none e))
 
   -- boat j is emptied: its blamers go into the set
-  pub slot-fails : (j u : ℕ) → (sweepOf t (take i w) a).emptied ≡ some j → (backward ≡ BySets → (g : ℕ) → bit u g ≡ (bit s g || blamersOf t (take i w) j g)) →
-      step t (stepsOver t (aheadByPlan t) backward) (take i w) a (state backward (setWords w i s))
-      ≡ next (trial i a ∷ (sweepOf t (take i w) a).checks) (take i w) (suc a) (state backward (setWords w i u))
-  slot-fails j u e f = rw is-trial at (step-fails t (aheadByPlan t) backward w i le lt a s la live u (blamersOf t (take i w) j) (judged (some j) e) f)
+  pub slot_fails : (j u : ℕ) → (sweep_of t (take i w) a).emptied ≡ some j → (backward ≡ BySets → (g : ℕ) → bit u g ≡ (bit s g || blamers_of t (take i w) j g)) →
+      step t (steps_over t (ahead_by_plan t) backward) (take i w) a (state backward (set_words w i s))
+      ≡ next (trial i a ∷ (sweep_of t (take i w) a).checks) (take i w) (suc a) (state backward (set_words w i u))
+  slot_fails j u e f = rw is_trial at (step_fails t (ahead_by_plan t) backward w i le lt a s la live u (blamers_of t (take i w) j) (judged (some j) e) f)
 
   -- whichever it is, these are its events
-  pub slot-tries : (plan : List ℕ) × (choice : ℕ) × (after : State backward)
-      × (step t (stepsOver t (aheadByPlan t) backward) (take i w) a (state backward (setWords w i s)) ≡ next (trial i a ∷ (sweepOf t (take i w) a).checks) plan choice after)
-  slot-tries = rw is-trial at (step-tries t (aheadByPlan t) backward w i le lt a s la live)
+  pub slot_tries : (plan : List ℕ) × (choice : ℕ) × (after : State backward)
+      × (step t (steps_over t (ahead_by_plan t) backward) (take i w) a (state backward (set_words w i s)) ≡ next (trial i a ∷ (sweep_of t (take i w) a).checks) plan choice after)
+  slot_tries = rw is_trial at (step_tries t (ahead_by_plan t) backward w i le lt a s la live)

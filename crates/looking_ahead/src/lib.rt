@@ -1,9 +1,9 @@
 // FC and FC-CBJ: a trial looks ahead at the later boats listed with it.
 ghost use Rattle.std.specs.Prelude.{◌≡◌, ◌^◌, ◌<◌};
 ghost use Rattle.problem.specs.Tables.{Tables, tables};
-ghost use Rattle.methods.specs.ByPlan.{aheadByPlan};
-ghost use Rattle.words.specs.Places.{liveAt, blames};
-ghost use Rattle.words.specs.Layout.{ChangedOnly, firstPair};
+ghost use Rattle.methods.specs.ByPlan.{ahead_by_plan};
+ghost use Rattle.words.specs.Places.{live_at, blames};
+ghost use Rattle.words.specs.Layout.{ChangedOnly, first_pair};
 ghost use Rattle.visits.specs.Visits.{Standing, Visits};
 ghost use Rattle.live_words.specs.Kept.{KeptAhead};
 ghost use Rattle.looking_ahead.specs.Ahead.{LivesAfter};
@@ -30,9 +30,9 @@ pub fn visit(
     requires standing { Standing t work.old i start }
     requires kept_ahead { KeptAhead backward t work.old i }
     requires with_bound { with < 2 ^ i }
-    ensures visits { Visits t (aheadByPlan t) backward work.old i from with start result }
+    ensures visits { Visits t (ahead_by_plan t) backward work.old i from with start result }
     ensures lives_after { LivesAfter t work.old i work.new result }
-    ensures changed_only { ChangedOnly (liveAt (firstPair t.pairs i)) blames work.old work.new }
+    ensures changed_only { ChangedOnly (live_at (first_pair t.pairs i)) blames work.old work.new }
 {
     let live = work[work[Words::LASTS + i] as usize];
     let own = sweeping::own_pairs(sizes, pairs, rows, i, work);

@@ -1,7 +1,7 @@
 // BT and CBJ: a trial looks back at the placed boats, in order.
 ghost use Rattle.std.specs.Prelude.{◌≡◌, ◌^◌, ◌<◌};
 ghost use Rattle.problem.specs.Tables.{Tables, tables};
-ghost use Rattle.methods.specs.BT.{lookingBack};
+ghost use Rattle.methods.specs.BT.{looking_back};
 ghost use Rattle.visits.specs.declared.Backward.{Backward};
 ghost use Rattle.visits.specs.Visits.{Standing, Visits};
 ghost use Rattle.looking_back.specs.Kept.{KeptBack};
@@ -26,7 +26,7 @@ pub fn visit(
     requires standing { Standing t work.now i start }
     requires kept_back { KeptBack t work.now i }
     requires with_bound { with < 2 ^ i }
-    ensures { (backward : Backward) → Visits t (lookingBack t) backward work.now i from with start result }
+    ensures { (backward : Backward) → Visits t (looking_back t) backward work.now i from with start result }
 {
     let size = looks::size_of(sizes, i) as u64;
     let first = work[Words::STARTS + i] as usize;

@@ -5,19 +5,19 @@ use mathlib.Core.List.{List}
 use Prim.Native.Nat.{ℕ, ◌+◌, ◌-◌, ◌<◌}
 use native.Mathlib.Omega.{arith}
 use lib.ListN.{length, get_or}
-use Rattle.problem.specs.Tables.{Tables, boats, size, place, isListed, start, bit}
+use Rattle.problem.specs.Tables.{Tables, boats, size, place, is_listed, start, bit}
 use Rattle.problem.specs.Sane.{Sane}
 use Rattle.events.specs.declared.Counts.{Counts}
-use Rattle.events.specs.Counts.{checkCounted}
-use Rattle.methods.specs.Choices.{mayStand}
+use Rattle.events.specs.Counts.{check_counted}
+use Rattle.methods.specs.Choices.{may_stand}
 use Rattle.words.specs.Places.{index, tri}
 use Rattle.words.specs.Layout.{word, index_of, Indexed}
-use Rattle.words.proofs.Indexed.{index-unlisted, index_listed, listed-index}
-use Rattle.words.proofs.Rows.{row-there, row-allows}
+use Rattle.words.proofs.Indexed.{index_unlisted, index_listed, listed_index}
+use Rattle.words.proofs.Rows.{row_there, row_allows}
 use Rattle.visits.specs.declared.Look.{Look}
-use Rattle.visits.specs.Looks.{checkedLook}
+use Rattle.visits.specs.Looks.{checked_look}
 use Rattle.visits.proofs.Looking.{look_of}
-use Rattle.marking.specs.Looks.{lookedAt}
+use Rattle.marking.specs.Looks.{looked_at}
 
 module _ (t : Tables) (h i : ℕ) where
   -- the word itself, where its row begins there
@@ -26,19 +26,19 @@ module _ (t : Tables) (h i : ℕ) where
 
   module _ (x : ℕ) (found : ℕ) (e : found ≡ index_of t h i) where
     -- the rows of a listed pair begin one below it
-    begins : isListed t.pairs h i ≡ true → found - 1 ≡ start t.sizes t.pairs (place t.pairs h i)
+    begins : is_listed t.pairs h i ≡ true → found - 1 ≡ start t.sizes t.pairs (place t.pairs h i)
     begins l = omega (arith, index_listed t h i found e l)
 
     -- the row that it leads to is there
-    pub index-row : Sane t → x < size t.sizes h → 0 < found → found - 1 + x < length t.rows
-    index-row s lx pos = let l = listed-index t h i found e pos in row-there t h i (found - 1) (begins l) l x s lx
+    pub index_row : Sane t → x < size t.sizes h → 0 < found → found - 1 + x < length t.rows
+    index_row s lx pos = let l = listed_index t h i found e pos in row_there t h i (found - 1) (begins l) l x s lx
 
     -- and the look goes by it as by the pair
-    pub looked-as : {r : Look} (a : ℕ) (m : Counts) → r ≡ lookedAt found (bit (get_or t.rows (found - 1 + x) 0) a) m → r ≡ look_of (isListed t.pairs h i) (mayStand t h x i a) m
-    looked-as a m g = g ∙ by (isListed t.pairs h i) refl
+    pub looked_as : {r : Look} (a : ℕ) (m : Counts) → r ≡ looked_at found (bit (get_or t.rows (found - 1 + x) 0) a) m → r ≡ look_of (is_listed t.pairs h i) (may_stand t h x i a) m
+    looked_as a m g = g ∙ by (is_listed t.pairs h i) refl
       where
-        by : (b : Bool) → isListed t.pairs h i ≡ b → lookedAt found (bit (get_or t.rows (found - 1 + x) 0) a) m ≡ look_of b (mayStand t h x i a) m
-        by false l = ap (λ (n : ℕ). lookedAt n (bit (get_or t.rows (found - 1 + x) 0) a) m) (index-unlisted t h i found e l)
+        by : (b : Bool) → is_listed t.pairs h i ≡ b → looked_at found (bit (get_or t.rows (found - 1 + x) 0) a) m ≡ look_of b (may_stand t h x i a) m
+        by false l = ap (λ (n : ℕ). looked_at n (bit (get_or t.rows (found - 1 + x) 0) a) m) (index_unlisted t h i found e l)
         by true l =
-            ap (λ (n : ℕ). lookedAt n (bit (get_or t.rows (found - 1 + x) 0) a) m) (index_listed t h i found e l)
-            ∙ ap (λ (b : Bool). checkedLook b (checkCounted m)) (row-allows t h i (found - 1) (begins l) l x a)
+            ap (λ (n : ℕ). looked_at n (bit (get_or t.rows (found - 1 + x) 0) a) m) (index_listed t h i found e l)
+            ∙ ap (λ (b : Bool). checked_look b (check_counted m)) (row_allows t h i (found - 1) (begins l) l x a)

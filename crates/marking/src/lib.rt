@@ -1,12 +1,12 @@
 // BM: a trial looks back only as far as its mark and the boat's b do not already tell.
 ghost use Rattle.std.specs.Prelude.{◌≡◌, pred, ◌+◌, ◌-◌, ◌<◌, length, get_or};
 ghost use Rattle.problem.specs.Tables.{Tables, tables, bit};
-ghost use Rattle.words.specs.Places.{markAt};
+ghost use Rattle.words.specs.Places.{mark_at};
 ghost use Rattle.words.specs.Layout.{ChangedOnly};
 ghost use Rattle.visits.specs.Visits.{Standing};
 ghost use Rattle.marking.specs.Visits.{VisitsMarked};
 ghost use Rattle.marks.specs.Kept.{KeptMarked};
-ghost use Rattle.marking.specs.Looks.{lookedAt};
+ghost use Rattle.marking.specs.Looks.{looked_at};
 
 use events::{Counted, Counts};
 use visits::{Look, Visited};
@@ -16,7 +16,7 @@ use words::Words;
 fn look_at(rows: &[u64], index: u64, held: u64, slot: u64, counts: Counts) -> Look
     requires slot_bound { slot < 64 }
     requires held_in_bounds { 0 < index → index - 1 + held < length rows.now }
-    ensures { result ≡ lookedAt index (bit (get_or rows.now (index - 1 + held) 0) slot) counts }
+    ensures { result ≡ looked_at index (bit (get_or rows.now (index - 1 + held) 0) slot) counts }
 {
     if index == 0 {
         return Look::Allowed(counts);
@@ -47,7 +47,7 @@ pub fn visit(
     requires standing { Standing t work.old i start }
     requires kept_marked { KeptMarked t work.old i }
     ensures visits_marked { VisitsMarked t work.old i from start work.new result }
-    ensures changed_only { ChangedOnly (markAt i 0) (markAt i 64) work.old work.new }
+    ensures changed_only { ChangedOnly (mark_at i 0) (mark_at i 64) work.old work.new }
 {
     let size = looks::size_of(sizes, i) as u64;
     let row = words::row_at(i);

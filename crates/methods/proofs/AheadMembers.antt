@@ -14,24 +14,24 @@ use lib.ListN.{length, take, length-append}
 use lib.Seq.{length-take-le}
 use Rattle.problem.specs.Tables.{Tables}
 use Rattle.methods.specs.Choices.{choices}
-use Rattle.methods.specs.FC.{Strikes, strikers, struck, endOfSweep, putBackFrom, lookingAhead}
+use Rattle.methods.specs.FC.{Strikes, strikers, struck, end_of_sweep, put_back_from, looking_ahead}
 use Rattle.methods.proofs.Sets.{or_cases}
 use Rattle.methods.proofs.Members.{Judged, BlamesPlaced}
-use Rattle.methods.proofs.Ahead.{some?-elim}
+use Rattle.methods.proofs.Ahead.{some?_elim}
 
 -- a boat that struck is placed
 abbrev pub StruckByPlaced : List ℕ → Strikes → Type 0
 StruckByPlaced p s = (h j b : ℕ) → T (s h j b) → h < length p
 
 module _ (t : Tables) (p : List ℕ) (s : Strikes) (k : StruckByPlaced p s) where
-  strikers-placed : (j h : ℕ) → T (strikers t s j h) → h < length p
+  strikers_placed : (j h : ℕ) → T (strikers t s j h) → h < length p
   unfolding strikers
-  strikers-placed j h x = let w = some?-elim (choices t j) (λ b. s h j b) x in k h j w.0 w.2
+  strikers_placed j h x = let w = some?_elim (choices t j) (λ b. s h j b) x in k h j w.0 w.2
 
   -- a trial that passes: only the boat at hand, now placed, has struck more
-  struck-placed : (a : ℕ) → StruckByPlaced (p ++ (a ∷ [])) (struck t s (length p) a)
+  struck_placed : (a : ℕ) → StruckByPlaced (p ++ (a ∷ [])) (struck t s (length p) a)
   unfolding struck
-  struck-placed a h j b x = simp length-append (by (ℕ_discrete h (length p)))
+  struck_placed a h j b x = simp length-append (by (ℕ_discrete h (length p)))
     where
       old : T (s h j b) ⊎ T false → h < length p + 1
       old (inl y) = omega (arith, k h j b y)
@@ -42,29 +42,29 @@ module _ (t : Tables) (p : List ℕ) (s : Strikes) (k : StruckByPlaced p s) wher
       by (no ne) = old (or_cases (s h j b) false (rw (ne_eqb h (length p) ne) at x))
 
   -- a trial that fails: those to blame struck before it
-  swept-placed : (a : ℕ) (emptied : Option ℕ) → Judged (lookingAhead t) StruckByPlaced p a (endOfSweep t s (length p) a emptied)
-  unfolding endOfSweep
-  swept-placed a none = struck-placed a
-  swept-placed a (some j) = λ h x. strikers-placed _ h x
+  swept_placed : (a : ℕ) (emptied : Option ℕ) → Judged (looking_ahead t) StruckByPlaced p a (end_of_sweep t s (length p) a emptied)
+  unfolding end_of_sweep
+  swept_placed a none = struck_placed a
+  swept_placed a (some j) = λ h x. strikers_placed _ h x
 
   -- going back: what the boats before h struck stays
-  kept-placed : (h : ℕ) → h < length p → StruckByPlaced (take h p) (putBackFrom h s)
-  unfolding putBackFrom
-  kept-placed h lh g j b x = rw (length-take-le h p (le_of_lt lh)) (by (dec_lt g h))
+  kept_placed : (h : ℕ) → h < length p → StruckByPlaced (take h p) (put_back_from h s)
+  unfolding put_back_from
+  kept_placed h lh g j b x = rw (length-take-le h p (le_of_lt lh)) (by (dec_lt g h))
     where
       by : Dec (g < h) → g < h
       by (yes l) = l
       by (no nl) =
           let e = le-ltb g h (omega arith) in
-          let z : putBackFrom h s g j b ≡ false = cc in
+          let z : put_back_from h s g j b ≡ false = cc in
           absurd (subst (λ (c : Bool). T c) z x)
 
-pub ahead-placed : (t : Tables) → BlamesPlaced (lookingAhead t) StruckByPlaced
-unfolding lookingAhead
-ahead-placed t =
+pub ahead_placed : (t : Tables) → BlamesPlaced (looking_ahead t) StruckByPlaced
+unfolding looking_ahead
+ahead_placed t =
     record {
       begin = λ h j b x. absurd x;
-      judged = λ p a s k. swept-placed t p s k a _;
-      blamed = λ p s k j x. strikers-placed t p s k (length p) j x;
-      kept = λ p h s k lh. kept-placed t p s k h lh;
+      judged = λ p a s k. swept_placed t p s k a _;
+      blamed = λ p s k j x. strikers_placed t p s k (length p) j x;
+      kept = λ p h s k lh. kept_placed t p s k h lh;
     }

@@ -4,7 +4,7 @@ use Rattle.std.proofs.Math.Option.{Option, none, some}
 use Rattle.problem.specs.Tables.{Tables, boats}
 use Rattle.methods.specs.Machine.{Left, nowhere, back, Steps}
 use Rattle.methods.specs.Moves.{Boats, Verdict, pass, fail, passes, remembered, Forward}
-use Rattle.methods.specs.BT.{lookingBack}
+use Rattle.methods.specs.BT.{looking_back}
 
 -- each boat's set, and what the forward move remembers
 abbrev pub Sets : Type 0
@@ -25,17 +25,17 @@ deepest zero s = none
 deepest (suc n) s = cond (s n) (some n) (deepest n s)
 
 -- boat i, with the boats s to blame, goes back to boat h: the set of h becomes the union of both without h; the sets of h + 1 to i are emptied
-abbrev pub handedDown : Sets → (i h : ℕ) → Boats → Sets
-handedDown sets i h s = λ k j. cond (eqb k h) ((sets h j || s j) && not (eqb j h)) (cond (ltb h k && leb k i) false (sets k j))
+abbrev pub handed_down : Sets → (i h : ℕ) → Boats → Sets
+handed_down sets i h s = λ k j. cond (eqb k h) ((sets h j || s j) && not (eqb j h)) (cond (ltb h k && leb k i) false (sets k j))
 
 -- no choice left at boat i: if nobody is to blame, no plan; else back to the deepest of them
 abbrev pub jump : {S : Type 0} → Forward S → Jumping S → (i : ℕ) → Boats → Option ℕ → Left (Jumping S)
 jump F σ i s none = nowhere
-jump F σ i s (some h) = back h (record { sets = handedDown σ.sets i h s; rest = F.put_back h σ.rest })
+jump F σ i s (some h) = back h (record { sets = handed_down σ.sets i h s; rest = F.put_back h σ.rest })
 
 -- i's set with i's blamers
-abbrev pub toBlame : {S : Type 0} → Forward S → Jumping S → (plan : List ℕ) → Boats
-toBlame F σ p = λ j. σ.sets (length p) j || F.blamers σ.rest p j
+abbrev pub to_blame : {S : Type 0} → Forward S → Jumping S → (plan : List ℕ) → Boats
+to_blame F σ p = λ j. σ.sets (length p) j || F.blamers σ.rest p j
 
 -- jumping over a forward move. A boat that moves forward keeps its set
 abbrev pub jumping : Tables → {S : Type 0} → Forward S → Steps (Jumping S)
@@ -51,8 +51,8 @@ jumping t F =
           rest = remembered σ.rest (F.trial σ.rest p a).verdict;
         };
       };
-      unlabel = λ σ p. jump F σ (length p) (toBlame F σ p) (deepest (boats t) (toBlame F σ p));
+      unlabel = λ σ p. jump F σ (length p) (to_blame F σ p) (deepest (boats t) (to_blame F σ p));
     }
 
 unfoldable pub cbj : Tables → Steps (Jumping (Unit {0}))
-cbj t = jumping t (lookingBack t)
+cbj t = jumping t (looking_back t)

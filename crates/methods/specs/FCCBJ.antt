@@ -3,7 +3,7 @@
 use Rattle.problem.specs.Tables.{Tables}
 use Rattle.methods.specs.Machine.{Steps}
 use Rattle.methods.specs.CBJ.{Jumping, jumping}
-use Rattle.methods.specs.FC.{Strikes, lookingAhead}
+use Rattle.methods.specs.FC.{Strikes, looking_ahead}
 
 unfoldable pub fccbj : Tables → Steps (Jumping Strikes)
-fccbj t = jumping t (lookingAhead t)
+fccbj t = jumping t (looking_ahead t)

@@ -12,9 +12,9 @@ use Rattle.methods.specs.FC.{fc}
 use Rattle.methods.specs.FCCBJ.{fccbj}
 
 -- the whole search, without allowances, told in slots
-unfoldable pub searchBy : Method → Tables → Search
-searchBy Bt t = shown t (search t (bt t))
-searchBy Cbj t = shown t (search t (cbj t))
-searchBy Bm t = shown t (search t (bm t))
-searchBy Fc t = shown t (search t (fc t))
-searchBy FcCbj t = shown t (search t (fccbj t))
+unfoldable pub search_by : Method → Tables → Search
+search_by Bt t = shown t (search t (bt t))
+search_by Cbj t = shown t (search t (cbj t))
+search_by Bm t = shown t (search t (bm t))
+search_by Fc t = shown t (search t (fc t))
+search_by FcCbj t = shown t (search t (fccbj t))

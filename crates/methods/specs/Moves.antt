@@ -47,9 +47,9 @@ remembered σ (pass τ) = τ
 remembered σ (fail blamed) = σ
 
 -- ---- stepping back: to the boat before; from boat 0: no plan
-abbrev pub oneBack : {S : Type 0} → (boat : ℕ) → (ℕ → S) → Left S
-oneBack zero after = nowhere
-oneBack (suc h) after = back h (after h)
+abbrev pub one_back : {S : Type 0} → (boat : ℕ) → (ℕ → S) → Left S
+one_back zero after = nowhere
+one_back (suc h) after = back h (after h)
 
 abbrev pub stepping : {S : Type 0} → Forward S → Steps S
 stepping F =
@@ -61,5 +61,5 @@ stepping F =
         passed = passes (F.trial σ p a).verdict;
         after = remembered σ (F.trial σ p a).verdict;
       };
-      unlabel = λ σ p. oneBack (length p) (λ h. F.put_back h σ);
+      unlabel = λ σ p. one_back (length p) (λ h. F.put_back h σ);
     }

@@ -2,12 +2,12 @@
 use Rattle.std.specs.Prelude.{◌≡◌, List, [], ◌++◌, ℕ, ◌≤◌, length, drop}
 use Rattle.problem.specs.Tables.{Tables}
 use Rattle.events.specs.Events.{Event, Search}
-use Rattle.methods.specs.Machine.{Steps, Step, stop, next, step, searchInside}
+use Rattle.methods.specs.Machine.{Steps, Step, stop, next, step, search_inside}
 
 -- the events of a step; one that stops has none
-abbrev pub eventsOf : {S : Type 0} → Step S → List Event
-eventsOf (stop r) = []
-eventsOf (next es p a σ) = es
+abbrev pub events_of : {S : Type 0} → Step S → List Event
+events_of (stop r) = []
+events_of (next es p a σ) = es
 
 module _ (t : Tables) {S : Type 0} (M : Steps S) where
   -- the beginning, and what a step makes of such a place
@@ -28,8 +28,8 @@ module _ (t : Tables) {S : Type 0} (M : Steps S) where
     pub memory : S
     pub made : ℕ
     pub reached : Reached plan choice memory
-    pub ofItsStep : made ≤ length (eventsOf (step t M plan choice memory))
-    pub comes : searchInside t M made plan choice memory ≡ s
+    pub of_its_step : made ≤ length (events_of (step t M plan choice memory))
+    pub comes : search_inside t M made plan choice memory ≡ s
 
 -- a search without its first k events
 abbrev pub after : (k : ℕ) → Search → Search

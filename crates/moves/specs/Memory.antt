@@ -4,18 +4,18 @@ use Rattle.problem.specs.Tables.{Tables}
 use Rattle.problem.specs.declared.Method.{Method}
 use Rattle.problem.specs.declared.Method.TheVariants.{Bt, Cbj, Bm, Fc, FcCbj}
 use Rattle.events.specs.Events.{Search}
-use Rattle.methods.specs.Machine.{Steps, searchFrom}
-use Rattle.methods.specs.BT.{lookingBack}
+use Rattle.methods.specs.Machine.{Steps, search_from}
+use Rattle.methods.specs.BT.{looking_back}
 use Rattle.methods.specs.BM.{Marks, bm}
-use Rattle.methods.specs.ByPlan.{aheadByPlan}
+use Rattle.methods.specs.ByPlan.{ahead_by_plan}
 use Rattle.words.specs.Places.{set_at}
 use Rattle.words.specs.Layout.{word}
-use Rattle.words.specs.Sets.{setWords, SetsBelow}
+use Rattle.words.specs.Sets.{set_words, SetsBelow}
 use Rattle.visits.specs.declared.Backward.{Backward}
 use Rattle.visits.specs.declared.Backward.TheVariants.{OneBack, BySets}
-use Rattle.visits.specs.Visits.{State, stepsOver, state}
+use Rattle.visits.specs.Visits.{State, steps_over, state}
 use Rattle.looking_back.specs.Kept.{KeptBack}
-use Rattle.marks.specs.Marks.{marksOf}
+use Rattle.marks.specs.Marks.{marks_of}
 use Rattle.marks.specs.Kept.{KeptMarked}
 use Rattle.live_words.specs.Kept.{KeptAhead}
 use Rattle.moves.specs.declared.Moves.{Moves}
@@ -35,20 +35,20 @@ Memory (LookingBack backward) = State backward
 Memory Marking = Marks
 Memory (LookingAhead backward) = State backward
 
-abbrev pub stepsBy : (moves : Moves) → Tables → Steps (Memory moves)
-stepsBy (LookingBack backward) t = stepsOver t (lookingBack t) backward
-stepsBy Marking t = bm t
-stepsBy (LookingAhead backward) t = stepsOver t (aheadByPlan t) backward
+abbrev pub steps_by : (moves : Moves) → Tables → Steps (Memory moves)
+steps_by (LookingBack backward) t = steps_over t (looking_back t) backward
+steps_by Marking t = bm t
+steps_by (LookingAhead backward) t = steps_over t (ahead_by_plan t) backward
 
 -- what is remembered at boat i
 abbrev pub memory : (moves : Moves) → List ℕ → (i : ℕ) → Memory moves
-memory (LookingBack backward) w i = state backward (setWords w i (word w (set_at i)))
-memory Marking w i = marksOf w
-memory (LookingAhead backward) w i = state backward (setWords w i (word w (set_at i)))
+memory (LookingBack backward) w i = state backward (set_words w i (word w (set_at i)))
+memory Marking w i = marks_of w
+memory (LookingAhead backward) w i = state backward (set_words w i (word w (set_at i)))
 
 -- what is to come at boat i, from slot a on
-abbrev pub toComeAt : (moves : Moves) → Tables → List ℕ → (i a : ℕ) → Search
-toComeAt moves t w i a = searchFrom t (stepsBy moves t) (take i w) a (memory moves w i)
+abbrev pub to_come_at : (moves : Moves) → Tables → List ℕ → (i a : ℕ) → Search
+to_come_at moves t w i a = search_from t (steps_by moves t) (take i w) a (memory moves w i)
 
 -- ---- what is known of the words at boat i, the boats below it being placed
 -- of the conflict sets, where the way back goes by them

@@ -5,7 +5,7 @@ use Rattle.words.specs.Places.{starts, lives, used}
 use Rattle.words.specs.Layout.{ChangedOnly, Firsts, Chained}
 use Rattle.live_words.specs.Lives.{Lives}
 use Rattle.moves.specs.declared.Moves.{Moves}
-use Rattle.moves.specs.Memory.{stepsBy, memory, Kept}
+use Rattle.moves.specs.Memory.{steps_by, memory, Kept}
 
 pub record PreparedAhead (t : Tables) (w w' : List ℕ) : Type 0 where
   pub only : ChangedOnly starts lives w w'
@@ -15,5 +15,5 @@ pub record PreparedAhead (t : Tables) (w w' : List ℕ) : Type 0 where
 
 pub record Prepared (moves : Moves) (t : Tables) (w w' : List ℕ) : Type 0 where
   pub kept : Kept moves t w' 0
-  pub fresh : memory moves w' 0 ≡ (stepsBy moves t).start
+  pub fresh : memory moves w' 0 ≡ (steps_by moves t).start
   pub only : ChangedOnly 0 used w w'

@@ -2,8 +2,8 @@
 ghost use Rattle.std.specs.Prelude.{◌≡◌};
 ghost use Rattle.problem.specs.Tables.{Tables, tables};
 ghost use Rattle.tables.specs.Examination.{Fine};
-ghost use Rattle.runs.specs.Runs.{runResult, result_of};
-ghost use Rattle.runs.specs.Lent.{lentResult};
+ghost use Rattle.runs.specs.Runs.{run_result, result_of};
+ghost use Rattle.runs.specs.Lent.{lent_result};
 
 use events::Counts;
 use problem::{Method, MethodFound, Problem, Refusal, Reply};
@@ -23,7 +23,7 @@ fn run_fine(
     ghost t: { Tables }
     requires rows_value { tables sizes.now pairs.now rows.now ≡ t }
     requires fine { Fine t }
-    ensures { result_of result plan.new work.new ≡ lentResult method t plan.old work.old checks trials }
+    ensures { result_of result plan.new work.new ≡ lent_result method t plan.old work.old checks trials }
 {
     let n = sizes.len();
     if plan.len() < n {
@@ -50,7 +50,7 @@ pub fn run(
     checks: u64,
     trials: u64,
 ) -> Reply
-    ensures { result_of result plan.new work.new ≡ runResult method (tables sizes.now pairs.now rows.now) plan.old work.old checks trials }
+    ensures { result_of result plan.new work.new ≡ run_result method (tables sizes.now pairs.now rows.now) plan.old work.old checks trials }
 {
     let named = Problem::method_of(method);
     let MethodFound::Found(chosen) = named else {

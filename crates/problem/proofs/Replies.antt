@@ -9,14 +9,14 @@ use Rattle.problem.specs.declared.Refusal.TheVariants.{Method, Boats, Size, Pair
 use Rattle.problem.specs.declared.Allowance.TheVariants.{Checks, Trials}
 use Rattle.problem.specs.declared.Answer.{Answer}
 use Rattle.problem.specs.declared.Answer.TheVariants.{Solved, NoPlan, Undecided, Refused}
-use Rattle.problem.specs.Replies.{Told, refusalTold, answerTold}
+use Rattle.problem.specs.Replies.{Told, refusal_told, answer_told}
 
 pub read_back : {A : Type 0} (tell : A → Told) (back : Told → A) → ((x : A) → back (tell x) ≡ x) → (x y : A) → tell x ≡ tell y → x ≡ y
 read_back tell back is x y e = sym (is x) ∙ ap back e ∙ is y
 
 -- ---- a refusal
-refusalOf : ℕ → ℕ → Refusal
-refusalOf number place = get_or to11 number (get_or from21 (number - 21) (get_or from51 (number - 51) Method))
+refusal_of : ℕ → ℕ → Refusal
+refusal_of number place = get_or to11 number (get_or from21 (number - 21) (get_or from51 (number - 51) Method))
   where
     -- no refusal has 0 or 5
     to11 : List Refusal
@@ -41,52 +41,52 @@ refusalOf number place = get_or to11 number (get_or from21 (number - 21) (get_or
     from51 : List Refusal
     from51 = PairNoBoat place ∷ PairSameBoat place ∷ PairHigherFirst place ∷ PairNotRising place ∷ []
 
-pub toldRefusal : Told → Refusal
-toldRefusal w = refusalOf (w.number - 100) (get_or w.values 0 0)
+pub told_refusal : Told → Refusal
+told_refusal w = refusal_of (w.number - 100) (get_or w.values 0 0)
 
-refusal-back : (why : Refusal) → toldRefusal (refusalTold why) ≡ why
-unfolding toldRefusal refusalOf
-refusal-back Method = refl
-refusal-back Boats = refl
-refusal-back (Size boat) = refl
-refusal-back PairBytes = refl
-refusal-back (PairNoBoat byte) = refl
-refusal-back (PairSameBoat byte) = refl
-refusal-back (PairHigherFirst byte) = refl
-refusal-back (PairNotRising byte) = refl
-refusal-back RowWords = refl
-refusal-back (RowBit word) = refl
-refusal-back PlanMemory = refl
-refusal-back WorkMemory = refl
-refusal-back GivenLength = refl
-refusal-back (GivenSlot boat) = refl
-refusal-back (Mark byte) = refl
-refusal-back (FileEnd byte) = refl
-refusal-back (FileBoat byte) = refl
-refusal-back (FileCount byte) = refl
-refusal-back (FileRest byte) = refl
-refusal-back Room = refl
+refusal_back : (why : Refusal) → told_refusal (refusal_told why) ≡ why
+unfolding told_refusal refusal_of
+refusal_back Method = refl
+refusal_back Boats = refl
+refusal_back (Size boat) = refl
+refusal_back PairBytes = refl
+refusal_back (PairNoBoat byte) = refl
+refusal_back (PairSameBoat byte) = refl
+refusal_back (PairHigherFirst byte) = refl
+refusal_back (PairNotRising byte) = refl
+refusal_back RowWords = refl
+refusal_back (RowBit word) = refl
+refusal_back PlanMemory = refl
+refusal_back WorkMemory = refl
+refusal_back GivenLength = refl
+refusal_back (GivenSlot boat) = refl
+refusal_back (Mark byte) = refl
+refusal_back (FileEnd byte) = refl
+refusal_back (FileBoat byte) = refl
+refusal_back (FileCount byte) = refl
+refusal_back (FileRest byte) = refl
+refusal_back Room = refl
 
-pub refusal-one : (x y : Refusal) → refusalTold x ≡ refusalTold y → x ≡ y
-refusal-one = read_back refusalTold toldRefusal refusal-back
+pub refusal_one : (x y : Refusal) → refusal_told x ≡ refusal_told y → x ≡ y
+refusal_one = read_back refusal_told told_refusal refusal_back
 
 -- ---- an enum that refuses, where its other answers have the numbers from 0 on
-abbrev pub toldOr : {A : Type 0} → List A → (Refusal → A) → Told → A
-toldOr others refuse w = get_or others w.number (refuse (toldRefusal w))
+abbrev pub told_or : {A : Type 0} → List A → (Refusal → A) → Told → A
+told_or others refuse w = get_or others w.number (refuse (told_refusal w))
 
-pub refused-back : {A : Type 0} (others : List A) (refuse : Refusal → A) → length others ≤ 100 → (why : Refusal) → toldOr others refuse (refusalTold why) ≡ refuse why
-refused-back others refuse l why = get_or-eq_default others _ (omega arith) ∙ ap refuse (refusal-back why)
+pub refused_back : {A : Type 0} (others : List A) (refuse : Refusal → A) → length others ≤ 100 → (why : Refusal) → told_or others refuse (refusal_told why) ≡ refuse why
+refused_back others refuse l why = get_or-eq_default others _ (omega arith) ∙ ap refuse (refusal_back why)
 
 -- ---- an answer
 abbrev answers : List Answer
 answers = Solved ∷ NoPlan ∷ Undecided Checks ∷ Undecided Trials ∷ []
 
-answer_back : (x : Answer) → toldOr answers Refused (answerTold x) ≡ x
+answer_back : (x : Answer) → told_or answers Refused (answer_told x) ≡ x
 answer_back Solved = refl
 answer_back NoPlan = refl
 answer_back (Undecided Checks) = refl
 answer_back (Undecided Trials) = refl
-answer_back (Refused why) = refused-back answers Refused (omega arith) why
+answer_back (Refused why) = refused_back answers Refused (omega arith) why
 
-pub answer-one : (x y : Answer) → answerTold x ≡ answerTold y → x ≡ y
-answer-one = read_back answerTold (toldOr answers Refused) answer_back
+pub answer_one : (x y : Answer) → answer_told x ≡ answer_told y → x ≡ y
+answer_one = read_back answer_told (told_or answers Refused) answer_back

@@ -9,34 +9,34 @@ use native.Mathlib.Omega.{arith}
 use Rattle.problem.specs.Lowest.{sum}
 use Rattle.problem.specs.Tables.{Tables, size, listed, lower, start}
 use Rattle.problem.specs.Sane.{Sane}
-use Rattle.problem.proofs.Places.{lower-named}
+use Rattle.problem.proofs.Places.{lower_named_lem}
 
 module _ (sizes pairs : List ℕ) where
-  pub start-zero : start sizes pairs 0 ≡ 0
+  pub start_zero : start sizes pairs 0 ≡ 0
   unfolding start sum
-  start-zero = refl
+  start_zero = refl
 
-  pub start-suc : (k : ℕ) → start sizes pairs (suc k) ≡ start sizes pairs k + size sizes (lower pairs k)
+  pub start_suc : (k : ℕ) → start sizes pairs (suc k) ≡ start sizes pairs k + size sizes (lower pairs k)
   unfolding start sum
-  start-suc k = refl
+  start_suc k = refl
 
-  pub start-next : (k : ℕ) → start sizes pairs (k + 1) ≡ start sizes pairs k + size sizes (lower pairs k)
-  start-next k = rw add-one (start-suc k)
+  pub start_next : (k : ℕ) → start sizes pairs (k + 1) ≡ start sizes pairs k + size sizes (lower pairs k)
+  start_next k = rw add-one (start_suc k)
 
-  pub start-mono : (j k : ℕ) → j ≤ k → start sizes pairs j ≤ start sizes pairs k
-  start-mono j zero h = let e : j ≡ 0 = omega arith in rw e (le_refl _)
-  start-mono j (suc k) h = by (eq-or-lt_of_le h) (start-mono j k)
+  pub start_mono : (j k : ℕ) → j ≤ k → start sizes pairs j ≤ start sizes pairs k
+  start_mono j zero h = let e : j ≡ 0 = omega arith in rw e (le_refl _)
+  start_mono j (suc k) h = by (eq-or-lt_of_le h) (start_mono j k)
     where
       by : (j ≡ suc k) ⊎ (j < suc k) → (j ≤ k → start sizes pairs j ≤ start sizes pairs k) → start sizes pairs j ≤ start sizes pairs (suc k)
       by (inl e) rec = rw e (le_refl _)
-      by (inr l) rec = omega (arith, start-suc k, rec (le_of_suc-le-suc l))
+      by (inr l) rec = omega (arith, start_suc k, rec (le_of_suc-le-suc l))
 
   -- the rows of a listed pair end where those of the last one do, or before
-  pub start-within : (k : ℕ) → k < listed pairs → start sizes pairs k + size sizes (lower pairs k) ≤ start sizes pairs (listed pairs)
-  start-within k l = omega (arith, start-suc k, start-mono (suc k) (listed pairs) l)
+  pub start_within : (k : ℕ) → k < listed pairs → start sizes pairs k + size sizes (lower pairs k) ≤ start sizes pairs (listed pairs)
+  start_within k l = omega (arith, start_suc k, start_mono (suc k) (listed pairs) l)
 
 -- at most 64 words a pair
-pub start-few : (t : Tables) → Sane t → (k : ℕ) → k ≤ listed t.pairs → start t.sizes t.pairs k ≤ 64 * k
-start-few t s zero le = omega (arith, start-zero t.sizes t.pairs)
-start-few t s (suc k) le =
-    omega (arith, start-suc t.sizes t.pairs k, s.fewSlots (lower t.pairs k) (lower-named t s k le), start-few t s k (omega arith))
+pub start_few : (t : Tables) → Sane t → (k : ℕ) → k ≤ listed t.pairs → start t.sizes t.pairs k ≤ 64 * k
+start_few t s zero le = omega (arith, start_zero t.sizes t.pairs)
+start_few t s (suc k) le =
+    omega (arith, start_suc t.sizes t.pairs k, s.few_slots (lower t.pairs k) (lower_named_lem t s k le), start_few t s k (omega arith))

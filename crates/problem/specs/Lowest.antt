@@ -2,13 +2,13 @@
 use Rattle.std.specs.Prelude.{Bool, true, false, ℕ, zero, suc, ◌+◌}
 
 -- of the m places from k on, the lowest where the test passes; the place after them where it passes at none
-unfoldable pub lowestFrom : (k m : ℕ) → (ℕ → Bool) → ℕ
-lowestFrom k zero test = k
-lowestFrom k (suc m) test = elim (test k) [ true ↦ k | false ↦ lowestFrom (suc k) m test ]
+unfoldable pub lowest_from : (k m : ℕ) → (ℕ → Bool) → ℕ
+lowest_from k zero test = k
+lowest_from k (suc m) test = elim (test k) [ true ↦ k | false ↦ lowest_from (suc k) m test ]
 
 -- the lowest place below n where the test passes; n where it passes at none
 unfoldable pub lowest : ℕ → (ℕ → Bool) → ℕ
-lowest n test = lowestFrom 0 n test
+lowest n test = lowest_from 0 n test
 
 -- f 0 + f 1 + .. + f (n - 1)
 unfoldable pub sum : ℕ → (ℕ → ℕ) → ℕ

@@ -4,5 +4,5 @@ use Rattle.problem.specs.declared.Method.TheVariants.{Bt, Cbj, Bm, Fc, FcCbj}
 use Rattle.problem.specs.declared.MethodFound.{MethodFound}
 use Rattle.problem.specs.declared.MethodFound.TheVariants.{Found, NotFound}
 
-abbrev pub methodOf : ℕ → MethodFound
-methodOf number = get_or (NotFound ∷ Found Bt ∷ Found Cbj ∷ Found Bm ∷ Found Fc ∷ Found FcCbj ∷ []) number NotFound
+abbrev pub method_numbered : ℕ → MethodFound
+method_numbered number = get_or (NotFound ∷ Found Bt ∷ Found Cbj ∷ Found Bm ∷ Found Fc ∷ Found FcCbj ∷ []) number NotFound

@@ -17,7 +17,7 @@ pub record Plan (t : Tables) (plan : List ℕ) : Type 0 where
 
 -- it is lawful when every listed pair allows it
 pub record Lawful (t : Tables) (plan : List ℕ) : Type 0 where
-  pub isPlan : Plan t plan
+  pub is_plan : Plan t plan
   pub kept : (k : ℕ) → k < listed t.pairs → T (keeps t plan k)
 
 -- of two plans the first has the lower slot at the lowest boat where they differ

@@ -7,49 +7,49 @@ use Rattle.problem.specs.declared.Answer.{Answer}
 use Rattle.problem.specs.declared.Answer.TheVariants.{Solved, NoPlan, Undecided, Refused}
 
 -- ---- a refusal's number, and its place
-abbrev pub refusalNumber : Refusal → ℕ
-refusalNumber Method = 1
-refusalNumber Boats = 2
-refusalNumber (Size boat) = 3
-refusalNumber PairBytes = 4
-refusalNumber (PairNoBoat byte) = 51
-refusalNumber (PairSameBoat byte) = 52
-refusalNumber (PairHigherFirst byte) = 53
-refusalNumber (PairNotRising byte) = 54
-refusalNumber RowWords = 6
-refusalNumber (RowBit word) = 7
-refusalNumber PlanMemory = 8
-refusalNumber WorkMemory = 9
-refusalNumber GivenLength = 10
-refusalNumber (GivenSlot boat) = 11
-refusalNumber (Mark byte) = 21
-refusalNumber (FileEnd byte) = 22
-refusalNumber (FileBoat byte) = 23
-refusalNumber (FileCount byte) = 24
-refusalNumber (FileRest byte) = 25
-refusalNumber Room = 26
+abbrev pub refusal_number : Refusal → ℕ
+refusal_number Method = 1
+refusal_number Boats = 2
+refusal_number (Size boat) = 3
+refusal_number PairBytes = 4
+refusal_number (PairNoBoat byte) = 51
+refusal_number (PairSameBoat byte) = 52
+refusal_number (PairHigherFirst byte) = 53
+refusal_number (PairNotRising byte) = 54
+refusal_number RowWords = 6
+refusal_number (RowBit word) = 7
+refusal_number PlanMemory = 8
+refusal_number WorkMemory = 9
+refusal_number GivenLength = 10
+refusal_number (GivenSlot boat) = 11
+refusal_number (Mark byte) = 21
+refusal_number (FileEnd byte) = 22
+refusal_number (FileBoat byte) = 23
+refusal_number (FileCount byte) = 24
+refusal_number (FileRest byte) = 25
+refusal_number Room = 26
 
-abbrev pub refusalPlace : Refusal → ℕ
-refusalPlace Method = 0
-refusalPlace Boats = 0
-refusalPlace (Size boat) = boat
-refusalPlace PairBytes = 0
-refusalPlace (PairNoBoat byte) = byte
-refusalPlace (PairSameBoat byte) = byte
-refusalPlace (PairHigherFirst byte) = byte
-refusalPlace (PairNotRising byte) = byte
-refusalPlace RowWords = 0
-refusalPlace (RowBit word) = word
-refusalPlace PlanMemory = 0
-refusalPlace WorkMemory = 0
-refusalPlace GivenLength = 0
-refusalPlace (GivenSlot boat) = boat
-refusalPlace (Mark byte) = byte
-refusalPlace (FileEnd byte) = byte
-refusalPlace (FileBoat byte) = byte
-refusalPlace (FileCount byte) = byte
-refusalPlace (FileRest byte) = byte
-refusalPlace Room = 0
+abbrev pub refusal_place : Refusal → ℕ
+refusal_place Method = 0
+refusal_place Boats = 0
+refusal_place (Size boat) = boat
+refusal_place PairBytes = 0
+refusal_place (PairNoBoat byte) = byte
+refusal_place (PairSameBoat byte) = byte
+refusal_place (PairHigherFirst byte) = byte
+refusal_place (PairNotRising byte) = byte
+refusal_place RowWords = 0
+refusal_place (RowBit word) = word
+refusal_place PlanMemory = 0
+refusal_place WorkMemory = 0
+refusal_place GivenLength = 0
+refusal_place (GivenSlot boat) = boat
+refusal_place (Mark byte) = byte
+refusal_place (FileEnd byte) = byte
+refusal_place (FileBoat byte) = byte
+refusal_place (FileCount byte) = byte
+refusal_place (FileRest byte) = byte
+refusal_place Room = 0
 
 -- ---- any reply: a number, and its values. A refusal counts from 100, so that its number is no other reply's
 pub record Told : Type 0 where
@@ -62,13 +62,13 @@ told number values = record { number = number; values = values }
 abbrev pub refused : (number place : ℕ) → Told
 refused number place = told (100 + number) (place ∷ [])
 
-abbrev pub refusalTold : Refusal → Told
-refusalTold why = refused (refusalNumber why) (refusalPlace why)
+abbrev pub refusal_told : Refusal → Told
+refusal_told why = refused (refusal_number why) (refusal_place why)
 
 -- ---- the answer of a run
-abbrev pub answerTold : Answer → Told
-answerTold Solved = told 0 []
-answerTold NoPlan = told 1 []
-answerTold (Undecided Checks) = told 2 []
-answerTold (Undecided Trials) = told 3 []
-answerTold (Refused why) = refusalTold why
+abbrev pub answer_told : Answer → Told
+answer_told Solved = told 0 []
+answer_told NoPlan = told 1 []
+answer_told (Undecided Checks) = told 2 []
+answer_told (Undecided Trials) = told 3 []
+answer_told (Refused why) = refusal_told why

@@ -29,15 +29,15 @@ abbrev pub higher : List ℕ → ℕ → ℕ
 higher pairs k = get_or pairs (2 * k + 1) 0
 
 -- pair k is the pair of boats h and i
-abbrev pub isPair : List ℕ → (h i k : ℕ) → Bool
-isPair pairs h i k = eqb (lower pairs k) h && eqb (higher pairs k) i
+abbrev pub is_pair : List ℕ → (h i k : ℕ) → Bool
+is_pair pairs h i k = eqb (lower pairs k) h && eqb (higher pairs k) i
 
 -- the place of the pair of boats h and i among the listed ones; `listed` where it is not listed
 unfoldable pub place : List ℕ → (h i : ℕ) → ℕ
-place pairs h i = lowest (listed pairs) (isPair pairs h i)
+place pairs h i = lowest (listed pairs) (is_pair pairs h i)
 
-unfoldable pub isListed : List ℕ → (h i : ℕ) → Bool
-isListed pairs h i = ltb (place pairs h i) (listed pairs)
+unfoldable pub is_listed : List ℕ → (h i : ℕ) → Bool
+is_listed pairs h i = ltb (place pairs h i) (listed pairs)
 
 -- ---- the rows: those of pair k begin after those of the pairs before it
 unfoldable pub start : List ℕ → List ℕ → ℕ → ℕ
@@ -57,4 +57,4 @@ allows t k a b = bit (row t k a) b
 
 -- boats h and i, h below i, may hold the slots a and b: a pair that is not listed allows everything
 unfoldable pub allowed : Tables → (h a i b : ℕ) → Bool
-allowed t h a i b = not (isListed t.pairs h i) || allows t (place t.pairs h i) a b
+allowed t h a i b = not (is_listed t.pairs h i) || allows t (place t.pairs h i) a b

@@ -1,7 +1,7 @@
 // The harbour's problem: its limits and methods, and what an operation answers.
 ghost use Rattle.std.specs.Prelude.{◌≡◌, ◌||◌, ◌%◌, ltb, eqb};
-ghost use Rattle.problem.specs.Methods.{methodOf};
-ghost use Rattle.problem.specs.Replies.{refusalNumber, refusalPlace};
+ghost use Rattle.problem.specs.Methods.{method_numbered};
+ghost use Rattle.problem.specs.Replies.{refusal_number, refusal_place};
 
 // A problem by its numbers: boats, listed pairs and row words. It holds none of the tables.
 #[derive(Drop)]
@@ -70,7 +70,7 @@ impl Problem {
 
     // The method that has a number: no number but the five has one.
     pub fn method_of(method: u64) -> MethodFound
-        ensures { result ≡ methodOf method }
+        ensures { result ≡ method_numbered method }
     {
         if method == Self::BT {
             return MethodFound::Found(Method::Bt);
@@ -165,7 +165,7 @@ pub struct Numbered {
 
 // The one place where a refusal becomes its number and place.
 pub fn number_of(why: Refusal) -> Numbered
-    ensures { (result.number ≡ refusalNumber why) × (result.place ≡ refusalPlace why) }
+    ensures { (result.number ≡ refusal_number why) × (result.place ≡ refusal_place why) }
 {
     match why {
         Refusal::Method => at(1, 0),

@@ -4,33 +4,33 @@ use mathlib.Core.List.{List, [], ◌∷◌}
 use Prim.Native.Nat.{ℕ}
 use native.Mathlib.Omega.{arith}
 use lib.ListN.{get_or}
-use Rattle.problem.proofs.Replies.{read_back, toldOr, refused-back}
+use Rattle.problem.proofs.Replies.{read_back, told_or, refused_back}
 use Rattle.questions.specs.declared.Judged.{Judged}
 use Rattle.questions.specs.declared.Judged.TheVariants.{Lawful, Unlawful, Refused as JudgedRefused}
 use Rattle.questions.specs.declared.Broken.{Broken}
 use Rattle.questions.specs.declared.Broken.TheVariants.{Nowhere, Pair, Refused as BrokenRefused}
-use Rattle.questions.specs.Replies.{judgedTold, brokenTold}
+use Rattle.questions.specs.Replies.{judged_told, broken_told}
 
 -- ---- whether a plan is lawful
 abbrev judgements : List Judged
 judgements = Lawful ∷ Unlawful ∷ []
 
-judged-back : (x : Judged) → toldOr judgements JudgedRefused (judgedTold x) ≡ x
-judged-back Lawful = refl
-judged-back Unlawful = refl
-judged-back (JudgedRefused why) = refused-back judgements JudgedRefused (omega arith) why
+judged_back : (x : Judged) → told_or judgements JudgedRefused (judged_told x) ≡ x
+judged_back Lawful = refl
+judged_back Unlawful = refl
+judged_back (JudgedRefused why) = refused_back judgements JudgedRefused (omega arith) why
 
-pub judged-one : (x y : Judged) → judgedTold x ≡ judgedTold y → x ≡ y
-judged-one = read_back judgedTold (toldOr judgements JudgedRefused) judged-back
+pub judged_one : (x y : Judged) → judged_told x ≡ judged_told y → x ≡ y
+judged_one = read_back judged_told (told_or judgements JudgedRefused) judged_back
 
 -- ---- a broken pair
 abbrev breaks : List ℕ → List Broken
 breaks values = Nowhere ∷ Pair (get_or values 0 0) ∷ []
 
-broken-back : (x : Broken) → toldOr (breaks (brokenTold x).values) BrokenRefused (brokenTold x) ≡ x
-broken-back Nowhere = refl
-broken-back (Pair k) = refl
-broken-back (BrokenRefused why) = refused-back (breaks (brokenTold (BrokenRefused why)).values) BrokenRefused (omega arith) why
+broken_back : (x : Broken) → told_or (breaks (broken_told x).values) BrokenRefused (broken_told x) ≡ x
+broken_back Nowhere = refl
+broken_back (Pair k) = refl
+broken_back (BrokenRefused why) = refused_back (breaks (broken_told (BrokenRefused why)).values) BrokenRefused (omega arith) why
 
-pub broken-one : (x y : Broken) → brokenTold x ≡ brokenTold y → x ≡ y
-broken-one = read_back brokenTold (λ w. toldOr (breaks w.values) BrokenRefused w) broken-back
+pub broken_one : (x y : Broken) → broken_told x ≡ broken_told y → x ≡ y
+broken_one = read_back broken_told (λ w. told_or (breaks w.values) BrokenRefused w) broken_back

@@ -4,8 +4,8 @@ ghost use Rattle.problem.specs.Lowest.{lowest};
 ghost use Rattle.problem.specs.Tables.{Tables, tables};
 ghost use Rattle.problem.specs.Sane.{Sane};
 ghost use Rattle.problem.specs.Plans.{Plan};
-ghost use Rattle.questions.specs.Questions.{badSlot, broken, brokenQuestion};
-ghost use Rattle.questions.specs.Replies.{brokenTold};
+ghost use Rattle.questions.specs.Questions.{bad_slot, broken, broken_question};
+ghost use Rattle.questions.specs.Replies.{broken_told};
 
 use crate::Broken;
 use problem::Refusal;
@@ -13,7 +13,7 @@ use problem::Refusal;
 // The lowest boat whose slot is not below its size; the number of boats where there is none.
 fn first_bad_slot(sizes: &[u8], plan: &[u8]) -> usize
     requires { length plan.now ≡ length sizes.now }
-    ensures { result ≡ lowest (length sizes.now) (badSlot sizes.now plan.now) }
+    ensures { result ≡ lowest (length sizes.now) (bad_slot sizes.now plan.now) }
 {
     let mut i: usize = 0;
     while i < sizes.len() {
@@ -53,7 +53,7 @@ pub fn broken_pair(sizes: &[u8], pairs: &[u8], rows: &[u64], plan: &[u8]) -> Bro
     ghost t: { Tables }
     requires rows_value { tables sizes.now pairs.now rows.now ≡ t }
     requires sane { Sane t }
-    ensures { brokenTold result ≡ brokenQuestion t plan.now }
+    ensures { broken_told result ≡ broken_question t plan.now }
 {
     if plan.len() != sizes.len() {
         return Broken::Refused(Refusal::GivenLength);

@@ -1,8 +1,8 @@
 // The questions about a given plan and about a pair's rows. Each takes any slices whatever and asks nothing of its caller.
 ghost use Rattle.std.specs.Prelude.{◌≡◌};
 ghost use Rattle.problem.specs.Tables.{tables};
-ghost use Rattle.questions.specs.Questions.{lawfulQuestion, brokenQuestion, rowsShown, shownRows};
-ghost use Rattle.questions.specs.Replies.{judgedTold, brokenTold};
+ghost use Rattle.questions.specs.Questions.{lawful_question, broken_question, rows_shown, shown_rows};
+ghost use Rattle.questions.specs.Replies.{judged_told, broken_told};
 
 mod given;
 
@@ -32,7 +32,7 @@ pub struct Part {
 
 // Is the given plan lawful?
 pub fn is_lawful(sizes: &[u8], pairs: &[u8], rows: &[u64], plan: &[u8]) -> Judged
-    ensures { judgedTold result ≡ lawfulQuestion (tables sizes.now pairs.now rows.now) plan.now }
+    ensures { judged_told result ≡ lawful_question (tables sizes.now pairs.now rows.now) plan.now }
 {
     match first_broken(sizes, pairs, rows, plan) {
         Broken::Nowhere => Judged::Lawful,
@@ -43,7 +43,7 @@ pub fn is_lawful(sizes: &[u8], pairs: &[u8], rows: &[u64], plan: &[u8]) -> Judge
 
 // Which is the first listed pair that the given plan breaks?
 pub fn first_broken(sizes: &[u8], pairs: &[u8], rows: &[u64], plan: &[u8]) -> Broken
-    ensures { brokenTold result ≡ brokenQuestion (tables sizes.now pairs.now rows.now) plan.now }
+    ensures { broken_told result ≡ broken_question (tables sizes.now pairs.now rows.now) plan.now }
 {
     match tables::examine(sizes, pairs, rows) {
         Examined::Refused(why) => Broken::Refused(why),
@@ -53,7 +53,7 @@ pub fn first_broken(sizes: &[u8], pairs: &[u8], rows: &[u64], plan: &[u8]) -> Br
 
 // Where do the rows of two boats' pair stand?
 pub fn place_of_rows(sizes: &[u8], pairs: &[u8], rows: &[u64], lower: usize, higher: usize) -> Part
-    ensures { result ≡ rowsShown (tables sizes.now pairs.now rows.now) lower higher }
+    ensures { result ≡ rows_shown (tables sizes.now pairs.now rows.now) lower higher }
 {
     match tables::examine(sizes, pairs, rows) {
         Examined::Refused(_) => Part { from: 0, to: 0 },
@@ -79,7 +79,7 @@ pub fn rows_of_pair<'a>(
     lower: usize,
     higher: usize,
 ) -> &'a [u64]
-    ensures { result.now ≡ shownRows (tables sizes.now pairs.now rows.now) lower higher }
+    ensures { result.now ≡ shown_rows (tables sizes.now pairs.now rows.now) lower higher }
 {
     let part = place_of_rows(sizes, pairs, rows, lower, higher);
     let from = part.from;

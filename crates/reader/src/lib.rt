@@ -2,12 +2,12 @@
 ghost use Rattle.std.specs.Prelude.{◌≡◌, ◌≤◌, length, take};
 ghost use Rattle.problem.specs.Tables.{tables};
 ghost use Rattle.tables.specs.Examination.{examination};
-ghost use Rattle.tables.specs.Replies.{examinedTold};
-ghost use Rattle.questions.specs.Questions.{lawfulQuestion};
-ghost use Rattle.questions.specs.Replies.{judgedTold};
+ghost use Rattle.tables.specs.Replies.{examined_told};
+ghost use Rattle.questions.specs.Questions.{lawful_question};
+ghost use Rattle.questions.specs.Replies.{judged_told};
 ghost use Rattle.files.specs.Rooms.{rooms};
-ghost use Rattle.files.specs.Reader.{readResult, deskResult};
-ghost use Rattle.reader.specs.Replies.{readAs};
+ghost use Rattle.files.specs.Reader.{read_result, desk_result};
+ghost use Rattle.reader.specs.Replies.{read_as};
 
 use questions::Judged;
 use scanning::Contents;
@@ -32,7 +32,7 @@ fn examined(
     words: usize,
 ) -> Examined
     requires { (boats ≤ length sizes.now) × (bytes ≤ length pairs.now) × (words ≤ length rows.now) }
-    ensures { examinedTold result ≡ examination (tables (take boats sizes.now) (take bytes pairs.now) (take words rows.now)) }
+    ensures { examined_told result ≡ examination (tables (take boats sizes.now) (take bytes pairs.now) (take words rows.now)) }
 {
     tables::examine(&sizes[..boats], &pairs[..bytes], &rows[..words])
 }
@@ -48,14 +48,14 @@ fn judged(
     plan: &[u8],
 ) -> Judged
     requires { (boats ≤ length sizes.now) × (bytes ≤ length pairs.now) × (words ≤ length rows.now) }
-    ensures { judgedTold result ≡ lawfulQuestion (tables (take boats sizes.now) (take bytes pairs.now) (take words rows.now)) plan.now }
+    ensures { judged_told result ≡ lawful_question (tables (take boats sizes.now) (take bytes pairs.now) (take words rows.now)) plan.now }
 {
     questions::is_lawful(&sizes[..boats], &pairs[..bytes], &rows[..words], plan)
 }
 
 // Reads a file into lent memory and examines its tables, which stand there whatever the examination says.
 pub fn read(file: &[u8], sizes: &mut [u8], pairs: &mut [u8], rows: &mut [u64]) -> FileRead
-    ensures { readAs result (rooms sizes.new pairs.new rows.new) ≡ readResult file.now (rooms sizes.old pairs.old rows.old) }
+    ensures { read_as result (rooms sizes.new pairs.new rows.new) ≡ read_result file.now (rooms sizes.old pairs.old rows.old) }
 {
     let contents = loading::load(file, sizes, pairs, rows);
     match contents {
@@ -88,8 +88,8 @@ pub fn is_lawful_by(
     pairs: &mut [u8],
     rows: &mut [u64],
 ) -> Judged
-    ensures result_value { judgedTold result ≡ (deskResult file.now plan.now (rooms sizes.old pairs.old rows.old)).answer }
-    ensures rows_after { rooms sizes.new pairs.new rows.new ≡ (deskResult file.now plan.now (rooms sizes.old pairs.old rows.old)).rooms }
+    ensures result_value { judged_told result ≡ (desk_result file.now plan.now (rooms sizes.old pairs.old rows.old)).answer }
+    ensures rows_after { rooms sizes.new pairs.new rows.new ≡ (desk_result file.now plan.now (rooms sizes.old pairs.old rows.old)).rooms }
 {
     let contents = loading::load(file, sizes, pairs, rows);
     match contents {

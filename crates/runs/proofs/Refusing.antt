@@ -8,8 +8,8 @@ use borrow.Author.Tests.{lt-ltb, le-ltb, ne_eqb}
 use lib.Dec.{ltb, eqb}
 use lib.ListN.{length}
 use Rattle.problem.specs.Tables.{Tables, boats}
-use Rattle.problem.specs.Methods.{methodOf}
-use Rattle.problem.specs.Replies.{Told, told, refused, refusalTold}
+use Rattle.problem.specs.Methods.{method_numbered}
+use Rattle.problem.specs.Replies.{Told, told, refused, refusal_told}
 use Rattle.problem.specs.declared.Problem.{Problem}
 use Rattle.problem.specs.declared.Refusal.{Refusal}
 use Rattle.problem.specs.declared.Method.{Method}
@@ -18,137 +18,137 @@ use Rattle.problem.specs.declared.MethodFound.TheVariants.{Found, NotFound}
 use Rattle.tables.specs.Tests.{Test, once, first_of}
 use Rattle.tables.specs.Examination.{tests, examination, Fine}
 use Rattle.tables.specs.Applies.{Gives}
-use Rattle.tables.specs.Replies.{examinedTold}
+use Rattle.tables.specs.Replies.{examined_told}
 use Rattle.tables.specs.declared.Examined.{Examined}
 use Rattle.tables.specs.declared.Examined.TheVariants.{Fine as FoundFine, Refused}
-use Rattle.tables.proofs.Examining.{once-applies, once-passes}
-use Rattle.tables.proofs.Laws.{gives-first, large-gives, after_none, gives-before, fine-none}
+use Rattle.tables.proofs.Examining.{once_applies, once_passes}
+use Rattle.tables.proofs.Laws.{gives_first, large_gives, after_none, gives_before, fine_none}
 use Rattle.events.specs.Allowances.{cut}
-use Rattle.methods.specs.Methods.{searchBy}
-use Rattle.runs.specs.Runs.{notOneToFive, lentTests, refusalOfRun, Result, refusedResult, finishedResult, finishedBy, unlessRefused, runResult}
-use Rattle.runs.specs.Lent.{lentRefusal, lentResult}
+use Rattle.methods.specs.Methods.{search_by}
+use Rattle.runs.specs.Runs.{not_one_to_five, lent_tests, refusal_of_run, Result, refused_result, finished_result, finished_by, unless_refused, run_result}
+use Rattle.runs.specs.Lent.{lent_refusal, lent_result}
 
 -- ---- number 1: a method number is refused where it is no method's, and only there
 abbrev nobodys : MethodFound → Bool
 nobodys (Found chosen) = false
 nobodys NotFound = true
 
-refused-nobodys : (n : ℕ) → notOneToFive n ≡ nobodys (methodOf n)
-refused-nobodys zero = refl
-refused-nobodys (suc zero) = refl
-refused-nobodys (suc (suc zero)) = refl
-refused-nobodys (suc (suc (suc zero))) = refl
-refused-nobodys (suc (suc (suc (suc zero)))) = refl
-refused-nobodys (suc (suc (suc (suc (suc zero))))) = refl
-refused-nobodys (suc (suc (suc (suc (suc (suc n)))))) =
+refused_nobodys : (n : ℕ) → not_one_to_five n ≡ nobodys (method_numbered n)
+refused_nobodys zero = refl
+refused_nobodys (suc zero) = refl
+refused_nobodys (suc (suc zero)) = refl
+refused_nobodys (suc (suc (suc zero))) = refl
+refused_nobodys (suc (suc (suc (suc zero)))) = refl
+refused_nobodys (suc (suc (suc (suc (suc zero))))) = refl
+refused_nobodys (suc (suc (suc (suc (suc (suc n)))))) =
     let m = suc (suc (suc (suc (suc (suc n))))) in
     rw (ne_eqb m 0 (λ z. omega arith), lt-ltb 5 m (omega arith))
 
-known-passes : (n : ℕ) (chosen : Method) → methodOf n ≡ Found chosen → notOneToFive n ≡ false
-known-passes n chosen e = refused-nobodys n ∙ ap nobodys e
+known_passes : (n : ℕ) (chosen : Method) → method_numbered n ≡ Found chosen → not_one_to_five n ≡ false
+known_passes n chosen e = refused_nobodys n ∙ ap nobodys e
 
-pub unknown-refused : (n : ℕ) → methodOf n ≡ NotFound → notOneToFive n ≡ true
-unknown-refused n e = refused-nobodys n ∙ ap nobodys e
+pub unknown_refused : (n : ℕ) → method_numbered n ≡ NotFound → not_one_to_five n ≡ true
+unknown_refused n e = refused_nobodys n ∙ ap nobodys e
 
 -- what the examination found
-module _ (t : Tables) {x : Examined} (says : examinedTold x ≡ examination t) where
-  pub found-fine : {p : Problem} → x ≡ FoundFine p → Fine t
-  found-fine e = sym (ap (λ (r : Told). r.number) says) ∙ ap (λ (y : Examined). (examinedTold y).number) e
+module _ (t : Tables) {x : Examined} (says : examined_told x ≡ examination t) where
+  pub found_fine : {p : Problem} → x ≡ FoundFine p → Fine t
+  found_fine e = sym (ap (λ (r : Told). r.number) says) ∙ ap (λ (y : Examined). (examined_told y).number) e
 
-  pub found-refused : {why : Refusal} → x ≡ Refused why → refusalTold why ≡ examination t
-  found-refused e = ap examinedTold (sym e) ∙ says
+  pub found_refused : {why : Refusal} → x ≡ Refused why → refusal_told why ≡ examination t
+  found_refused e = ap examined_told (sym e) ∙ says
 
 -- ---- the lent memory: 8, then 9
-module _ (t : Tables) (planBytes workWords : ℕ) where
-  pub lent-8 : planBytes < boats t → lentRefusal t planBytes workWords ≡ refused 8 0
-  unfolding lentRefusal
-  lent-8 l = once-applies 8 _ (once 9 (ltb workWords 8192) ∷ []) (told 0 []) (lt-ltb _ _ l)
+module _ (t : Tables) (plan_bytes work_words : ℕ) where
+  pub lent_8 : plan_bytes < boats t → lent_refusal t plan_bytes work_words ≡ refused 8 0
+  unfolding lent_refusal
+  lent_8 l = once_applies 8 _ (once 9 (ltb work_words 8192) ∷ []) (told 0 []) (lt-ltb _ _ l)
 
-  module _ (plan-fits : boats t ≤ planBytes) where
-    past-8 : lentRefusal t planBytes workWords ≡ first_of (once 9 (ltb workWords 8192) ∷ []) (told 0 [])
-    unfolding lentRefusal
-    past-8 = once-passes 8 _ (once 9 (ltb workWords 8192) ∷ []) (told 0 []) (le-ltb _ _ plan-fits)
+  module _ (plan_fits : boats t ≤ plan_bytes) where
+    past_8 : lent_refusal t plan_bytes work_words ≡ first_of (once 9 (ltb work_words 8192) ∷ []) (told 0 [])
+    unfolding lent_refusal
+    past_8 = once_passes 8 _ (once 9 (ltb work_words 8192) ∷ []) (told 0 []) (le-ltb _ _ plan_fits)
 
-    pub lent-9 : ltb workWords 8192 ≡ true → lentRefusal t planBytes workWords ≡ refused 9 0
-    lent-9 e = past-8 ∙ once-applies 9 _ [] (told 0 []) e
+    pub lent_9 : ltb work_words 8192 ≡ true → lent_refusal t plan_bytes work_words ≡ refused 9 0
+    lent_9 e = past_8 ∙ once_applies 9 _ [] (told 0 []) e
 
-    pub lent-enough : ltb workWords 8192 ≡ false → lentRefusal t planBytes workWords ≡ told 0 []
+    pub lent_enough : ltb work_words 8192 ≡ false → lent_refusal t plan_bytes work_words ≡ told 0 []
     unfolding first_of
-    lent-enough e = past-8 ∙ once-passes 9 _ [] (told 0 []) e
+    lent_enough e = past_8 ∙ once_passes 9 _ [] (told 0 []) e
 
 module _ (chosen : Method) (t : Tables) (plan work : List ℕ) (checks trials : ℕ) where
   abbrev left : Told → Bool → Result
-  left w fine = unlessRefused fine (finishedResult (cut checks trials (searchBy chosen t)) plan work) (refusedResult w plan work)
+  left w fine = unless_refused fine (finished_result (cut checks trials (search_by chosen t)) plan work) (refused_result w plan work)
 
-  pub lent-refused : {w : Told} → lentRefusal t (length plan) (length work) ≡ w → 100 ≤ w.number → lentResult chosen t plan work checks trials ≡ refusedResult w plan work
-  unfolding lentResult
-  lent-refused {w} e l = ap (λ (x : Told). left x (eqb x.number 0)) e ∙ ap (left w) (ne_eqb w.number 0 (λ z. omega arith))
+  pub lent_refused : {w : Told} → lent_refusal t (length plan) (length work) ≡ w → 100 ≤ w.number → lent_result chosen t plan work checks trials ≡ refused_result w plan work
+  unfolding lent_result
+  lent_refused {w} e l = ap (λ (x : Told). left x (eqb x.number 0)) e ∙ ap (left w) (ne_eqb w.number 0 (λ z. omega arith))
 
-  pub lent-finished : lentRefusal t (length plan) (length work) ≡ told 0 [] →
-      lentResult chosen t plan work checks trials ≡ finishedResult (cut checks trials (searchBy chosen t)) plan work
-  unfolding lentResult
-  lent-finished e = ap (λ (x : Told). left x (eqb x.number 0)) e
+  pub lent_finished : lent_refusal t (length plan) (length work) ≡ told 0 [] →
+      lent_result chosen t plan work checks trials ≡ finished_result (cut checks trials (search_by chosen t)) plan work
+  unfolding lent_result
+  lent_finished e = ap (λ (x : Told). left x (eqb x.number 0)) e
 
 -- ---- before it: 1, then the examination's
-module _ (method : ℕ) (t : Tables) (planBytes workWords : ℕ) where
+module _ (method : ℕ) (t : Tables) (plan_bytes work_words : ℕ) where
   abbrev memory : List Test
-  memory = lentTests t planBytes workWords
+  memory = lent_tests t plan_bytes work_words
 
-  pub says-1 : methodOf method ≡ NotFound → refusalOfRun method t planBytes workWords ≡ refused 1 0
-  unfolding refusalOfRun
-  says-1 e = once-applies 1 (notOneToFive method) (tests t ++ memory) (told 0 []) (unknown-refused method e)
+  pub says_1 : method_numbered method ≡ NotFound → refusal_of_run method t plan_bytes work_words ≡ refused 1 0
+  unfolding refusal_of_run
+  says_1 e = once_applies 1 (not_one_to_five method) (tests t ++ memory) (told 0 []) (unknown_refused method e)
 
-  module _ (chosen : Method) (known : methodOf method ≡ Found chosen) where
-    past-1 : refusalOfRun method t planBytes workWords ≡ first_of (tests t ++ memory) (told 0 [])
-    unfolding refusalOfRun
-    past-1 = once-passes 1 (notOneToFive method) (tests t ++ memory) (told 0 []) (known-passes method chosen known)
+  module _ (chosen : Method) (known : method_numbered method ≡ Found chosen) where
+    past_1 : refusal_of_run method t plan_bytes work_words ≡ first_of (tests t ++ memory) (told 0 [])
+    unfolding refusal_of_run
+    past_1 = once_passes 1 (not_one_to_five method) (tests t ++ memory) (told 0 []) (known_passes method chosen known)
 
-    pub says-examined : {w : Told} → w ≡ examination t → 100 ≤ w.number → refusalOfRun method t planBytes workWords ≡ w
+    pub says_examined : {w : Told} → w ≡ examination t → 100 ≤ w.number → refusal_of_run method t plan_bytes work_words ≡ w
     unfolding examination
-    says-examined {w} e l =
-        past-1
-        ∙ gives-first (tests t ++ memory) (told 0 []) w
-        (gives-before (tests t) memory w (subst (Gives (tests t)) (sym e) (large-gives (tests t) _ (omega arith) (omega (arith, ap (λ x. x.number) e)))))
+    says_examined {w} e l =
+        past_1
+        ∙ gives_first (tests t ++ memory) (told 0 []) w
+        (gives_before (tests t) memory w (subst (Gives (tests t)) (sym e) (large_gives (tests t) _ (omega arith) (omega (arith, ap (λ x. x.number) e)))))
 
-    says-lent : Fine t → refusalOfRun method t planBytes workWords ≡ lentRefusal t planBytes workWords
-    unfolding lentRefusal
-    says-lent fine = past-1 ∙ after_none (tests t) memory (told 0 []) (fine-none t fine)
+    says_lent : Fine t → refusal_of_run method t plan_bytes work_words ≡ lent_refusal t plan_bytes work_words
+    unfolding lent_refusal
+    says_lent fine = past_1 ∙ after_none (tests t) memory (told 0 []) (fine_none t fine)
 
-    pub says_nothing : Fine t → boats t ≤ planBytes → ltb workWords 8192 ≡ false → refusalOfRun method t planBytes workWords ≡ told 0 []
-    says_nothing fine l e = says-lent fine ∙ lent-enough t planBytes workWords l e
+    pub says_nothing : Fine t → boats t ≤ plan_bytes → ltb work_words 8192 ≡ false → refusal_of_run method t plan_bytes work_words ≡ told 0 []
+    says_nothing fine l e = says_lent fine ∙ lent_enough t plan_bytes work_words l e
 
 -- ---- the whole result
 module _ (method : ℕ) (t : Tables) (plan work : List ℕ) (checks trials : ℕ) where
-  pub result-refused : {w : Told} → refusalOfRun method t (length plan) (length work) ≡ w → 100 ≤ w.number →
-      runResult method t plan work checks trials ≡ refusedResult w plan work
-  unfolding runResult
-  result-refused {w} e l =
-      ap (λ (x : Told). unlessRefused (eqb x.number 0) (finishedBy (methodOf method) t plan work checks trials) (refusedResult x plan work)) e
-      ∙ ap (λ (b : Bool). unlessRefused b (finishedBy (methodOf method) t plan work checks trials) (refusedResult w plan work)) (ne_eqb w.number 0 (λ z. omega arith))
+  pub result_refused : {w : Told} → refusal_of_run method t (length plan) (length work) ≡ w → 100 ≤ w.number →
+      run_result method t plan work checks trials ≡ refused_result w plan work
+  unfolding run_result
+  result_refused {w} e l =
+      ap (λ (x : Told). unless_refused (eqb x.number 0) (finished_by (method_numbered method) t plan work checks trials) (refused_result x plan work)) e
+      ∙ ap (λ (b : Bool). unless_refused b (finished_by (method_numbered method) t plan work checks trials) (refused_result w plan work)) (ne_eqb w.number 0 (λ z. omega arith))
 
-  pub result-finished : (chosen : Method) → methodOf method ≡ Found chosen → refusalOfRun method t (length plan) (length work) ≡ told 0 [] →
-      runResult method t plan work checks trials ≡ finishedResult (cut checks trials (searchBy chosen t)) plan work
-  unfolding runResult
-  result-finished chosen k e =
-      ap (λ (x : Told). unlessRefused (eqb x.number 0) (finishedBy (methodOf method) t plan work checks trials) (refusedResult x plan work)) e
-      ∙ ap (λ (x : MethodFound). finishedBy x t plan work checks trials) k
+  pub result_finished : (chosen : Method) → method_numbered method ≡ Found chosen → refusal_of_run method t (length plan) (length work) ≡ told 0 [] →
+      run_result method t plan work checks trials ≡ finished_result (cut checks trials (search_by chosen t)) plan work
+  unfolding run_result
+  result_finished chosen k e =
+      ap (λ (x : Told). unless_refused (eqb x.number 0) (finished_by (method_numbered method) t plan work checks trials) (refused_result x plan work)) e
+      ∙ ap (λ (x : MethodFound). finished_by x t plan work checks trials) k
 
   -- on fine tables the lent memory decides
-  pub result-lent : (chosen : Method) → methodOf method ≡ Found chosen → Fine t → lentResult chosen t plan work checks trials ≡ runResult method t plan work checks trials
-  unfolding runResult lentResult
-  result-lent chosen k fine =
-      let w = lentRefusal t (length plan) (length work) in
-      ap (λ (x : MethodFound). unlessRefused (eqb w.number 0) (finishedBy x t plan work checks trials) (refusedResult w plan work)) (sym k)
-      ∙ ap (λ (x : Told). unlessRefused (eqb x.number 0) (finishedBy (methodOf method) t plan work checks trials) (refusedResult x plan work))
-      (sym (says-lent method t (length plan) (length work) chosen k fine))
+  pub result_lent : (chosen : Method) → method_numbered method ≡ Found chosen → Fine t → lent_result chosen t plan work checks trials ≡ run_result method t plan work checks trials
+  unfolding run_result lent_result
+  result_lent chosen k fine =
+      let w = lent_refusal t (length plan) (length work) in
+      ap (λ (x : MethodFound). unless_refused (eqb w.number 0) (finished_by x t plan work checks trials) (refused_result w plan work)) (sym k)
+      ∙ ap (λ (x : Told). unless_refused (eqb x.number 0) (finished_by (method_numbered method) t plan work checks trials) (refused_result x plan work))
+      (sym (says_lent method t (length plan) (length work) chosen k fine))
 
 -- all that a run leaves but its words goes by whether the words lent are enough, and by nothing else of them
-abbrev pub butWords : Result → Result
-butWords r = record { answer = r.answer; checks = r.checks; trials = r.trials; plan = r.plan; work = [] }
+abbrev pub but_words : Result → Result
+but_words r = record { answer = r.answer; checks = r.checks; trials = r.trials; plan = r.plan; work = [] }
 
 module _ (method : ℕ) (t : Tables) (plan work work' : List ℕ) (checks trials : ℕ) where
   abbrev leaving : Bool → MethodFound → Told → List ℕ → Result
-  leaving fine found w words = butWords (unlessRefused fine (finishedBy found t plan words checks trials) (refusedResult w plan words))
+  leaving fine found w words = but_words (unless_refused fine (finished_by found t plan words checks trials) (refused_result w plan words))
 
   by_length : (fine : Bool) (found : MethodFound) (w : Told) → leaving fine found w work' ≡ leaving fine found w work
   by_length true (Found chosen) w = refl
@@ -156,11 +156,11 @@ module _ (method : ℕ) (t : Tables) (plan work work' : List ℕ) (checks trials
   by_length false found w = refl
 
   abbrev refusal : Bool → Told
-  refusal few = first_of (once 1 (notOneToFive method) ∷ (tests t ++ (once 8 (ltb (length plan) (boats t)) ∷ once 9 few ∷ []))) (told 0 [])
+  refusal few = first_of (once 1 (not_one_to_five method) ∷ (tests t ++ (once 8 (ltb (length plan) (boats t)) ∷ once 9 few ∷ []))) (told 0 [])
 
-  pub same-but-words : ltb (length work') 8192 ≡ ltb (length work) 8192 →
-      butWords (runResult method t plan work' checks trials) ≡ butWords (runResult method t plan work checks trials)
-  unfolding runResult refusalOfRun
-  same-but-words e =
+  pub same_but_words : ltb (length work') 8192 ≡ ltb (length work) 8192 →
+      but_words (run_result method t plan work' checks trials) ≡ but_words (run_result method t plan work checks trials)
+  unfolding run_result refusal_of_run
+  same_but_words e =
       let w = refusal (ltb (length work) 8192) in
-      ap (λ (few : Bool). leaving (eqb (refusal few).number 0) (methodOf method) (refusal few) work') e ∙ by_length (eqb w.number 0) (methodOf method) w
+      ap (λ (few : Bool). leaving (eqb (refusal few).number 0) (method_numbered method) (refusal few) work') e ∙ by_length (eqb w.number 0) (method_numbered method) w

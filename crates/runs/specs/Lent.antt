@@ -5,15 +5,15 @@ use Rattle.problem.specs.Replies.{Told, told}
 use Rattle.problem.specs.declared.Method.{Method}
 use Rattle.tables.specs.Tests.{first_of}
 use Rattle.events.specs.Allowances.{cut}
-use Rattle.methods.specs.Methods.{searchBy}
-use Rattle.runs.specs.Runs.{lentTests, Result, refusedResult, finishedResult, unlessRefused}
+use Rattle.methods.specs.Methods.{search_by}
+use Rattle.runs.specs.Runs.{lent_tests, Result, refused_result, finished_result, unless_refused}
 
 -- the refusal of the lent memory; number 0 where it is enough
-unfoldable pub lentRefusal : Tables → (planBytes workWords : ℕ) → Told
-lentRefusal t planBytes workWords = first_of (lentTests t planBytes workWords) (told 0 [])
+unfoldable pub lent_refusal : Tables → (plan_bytes work_words : ℕ) → Told
+lent_refusal t plan_bytes work_words = first_of (lent_tests t plan_bytes work_words) (told 0 [])
 
-unfoldable pub lentResult : Method → Tables → (plan work : List ℕ) → (checks trials : ℕ) → Result
-lentResult method t plan work checks trials =
-    unlessRefused (eqb (lentRefusal t (length plan) (length work)).number 0)
-    (finishedResult (cut checks trials (searchBy method t)) plan work)
-    (refusedResult (lentRefusal t (length plan) (length work)) plan work)
+unfoldable pub lent_result : Method → Tables → (plan work : List ℕ) → (checks trials : ℕ) → Result
+lent_result method t plan work checks trials =
+    unless_refused (eqb (lent_refusal t (length plan) (length work)).number 0)
+    (finished_result (cut checks trials (search_by method t)) plan work)
+    (refused_result (lent_refusal t (length plan) (length work)) plan work)

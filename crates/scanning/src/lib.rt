@@ -1,8 +1,8 @@
 // The first of two passes over the bytes of a file: the first fault in them, or how much is in its tables.
 ghost use Rattle.std.specs.Prelude.{◌≡◌, [], ◌∷◌, ◌+◌, ◌<◌, ◌≤◌, length, get_or, take, drop};
 ghost use Rattle.files.specs.Reading.{same, reading};
-ghost use Rattle.scanning.specs.Replies.{readingTold, contentsTold};
-ghost use Rattle.scanning.specs.Scanning.{Meets, fromSizes};
+ghost use Rattle.scanning.specs.Replies.{reading_told, contents_told};
+ghost use Rattle.scanning.specs.Scanning.{Meets, from_sizes};
 
 use problem::{Problem, Refusal};
 
@@ -79,7 +79,7 @@ fn meet(file: &[u8], boats: usize, at: usize, pairs: usize) -> Met
 // From the first mark after the SZ on.
 fn scan_pairs(file: &[u8], boats: usize) -> Contents
     requires { 3 + boats ≤ length file.now }
-    ensures { contentsTold result ≡ readingTold (fromSizes file.now boats) }
+    ensures { contents_told result ≡ reading_told (from_sizes file.now boats) }
 {
     let mut at = 3 + boats;
     let mut pairs: usize = 0;
@@ -100,7 +100,7 @@ fn scan_pairs(file: &[u8], boats: usize) -> Contents
 
 // Any bytes at all. Of a PR only its mark and its lower boat are looked at here.
 pub fn scan(file: &[u8]) -> Contents
-    ensures { contentsTold result ≡ readingTold (reading file.now) }
+    ensures { contents_told result ≡ reading_told (reading file.now) }
 {
     if file.len() < 2 {
         return Contents::Refused(Refusal::FileEnd(file.len()));

@@ -6,7 +6,7 @@ use Rattle.problem.specs.Tables.{Tables}
 use Rattle.events.specs.declared.Counts.{Counts}
 use Rattle.words.specs.Places.{used}
 use Rattle.words.specs.Layout.{ChangedOnly}
-use Rattle.words.proofs.ChangedOnly.{only-trans}
+use Rattle.words.proofs.ChangedOnly.{only_trans}
 use Rattle.moves.specs.declared.Moves.{Moves}
 use Rattle.moves.specs.Memory.{Memory}
 use Rattle.moves.specs.Prepared.{Prepared}
@@ -19,6 +19,6 @@ pub from_start : (moves : Moves) (t : Tables) (w₀ w₁ w w' : List ℕ) (m : C
     Searched moves t w₀ m w' r
 from_start moves t w₀ w₁ w w' m r o p e =
     record {
-      only = only-trans o (only-trans p.only e.only);
+      only = only_trans o (only_trans p.only e.only);
       ends = subst (λ (σ : Memory moves). EndsAt moves t [] 0 σ m w' r) p.fresh e.ends;
     }

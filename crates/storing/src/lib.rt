@@ -1,7 +1,7 @@
 // What a visit begins with and leaves in the words.
 ghost use Rattle.std.specs.Prelude.{◌≡◌, ◌≤◌, ◌<◌, length};
 ghost use Rattle.words.specs.Places.{used};
-ghost use Rattle.storing.specs.Stored.{passedWords, setStored, keptWords, begunSet};
+ghost use Rattle.storing.specs.Stored.{passed_words, set_stored, kept_words, set_begun_with};
 
 use moves::Moves;
 use visits::Backward;
@@ -10,7 +10,7 @@ use words::Words;
 // The set that a visit of boat i begins with: its own, where the way back goes by sets.
 pub fn begun_set(backward: Backward, i: usize, work: &[u64]) -> u64
     requires { (i < 64) × (used ≤ length work.now) }
-    ensures { result ≡ begunSet backward work.now i }
+    ensures { result ≡ set_begun_with backward work.now i }
 {
     match backward {
         Backward::OneBack => 0,
@@ -21,7 +21,7 @@ pub fn begun_set(backward: Backward, i: usize, work: &[u64]) -> u64
 // Boat i keeps this set: it has no slot left, or takes the set over on the way back.
 pub fn store_set(i: usize, set: u64, work: &mut [u64])
     requires { (i < 64) × (used ≤ length work.old) }
-    ensures { work.new ≡ setStored work.old i set }
+    ensures { work.new ≡ set_stored work.old i set }
 {
     work[Words::SETS + i] = set;
 }
@@ -29,7 +29,7 @@ pub fn store_set(i: usize, set: u64, work: &mut [u64])
 // A slot of boat i has passed, with these members in its set.
 pub fn store_passed(i: usize, slot: u64, members: u64, work: &mut [u64])
     requires { (i < 64) × (used ≤ length work.old) }
-    ensures { work.new ≡ passedWords work.old i slot members }
+    ensures { work.new ≡ passed_words work.old i slot members }
 {
     work[i] = slot;
     work[Words::SETS + i] = members;
@@ -39,7 +39,7 @@ pub fn store_passed(i: usize, slot: u64, members: u64, work: &mut [u64])
 // The run has ended at a slot of boat i, with this set in hand.
 pub fn keep_set(moves: Moves, i: usize, set: u64, work: &mut [u64])
     requires { (i < 64) × (used ≤ length work.old) }
-    ensures { work.new ≡ keptWords moves work.old i set }
+    ensures { work.new ≡ kept_words moves work.old i set }
 {
     match moves {
         Moves::LookingBack(_) => store_set(i, set, work),

@@ -2,8 +2,8 @@
 ghost use Rattle.std.specs.Prelude.{◌≡◌, ◌≤◌, ◌<◌, length, take};
 ghost use Rattle.problem.specs.Tables.{Tables, tables, boats};
 ghost use Rattle.events.specs.Counts.{Fits};
-ghost use Rattle.words.specs.Places.{used, liveAt, blames};
-ghost use Rattle.words.specs.Layout.{ChangedOnly, firstPair, Firsts};
+ghost use Rattle.words.specs.Places.{used, live_at, blames};
+ghost use Rattle.words.specs.Layout.{ChangedOnly, first_pair, Firsts};
 ghost use Rattle.sweeping.specs.Sweeps.{Sweepable, Owns, SweepsTo};
 
 use events::{Counted, Counts};
@@ -63,7 +63,7 @@ pub fn sweep(
     requires owns { Owns t i own }
     requires fits { Fits start }
     ensures sweeps_to { SweepsTo t work.old (take i work.old) slot start work.new result }
-    ensures changed_only { ChangedOnly (liveAt (firstPair t.pairs i)) blames work.old work.new }
+    ensures changed_only { ChangedOnly (live_at (first_pair t.pairs i)) blames work.old work.new }
 {
     let size = own.size;
     let end = own.end;

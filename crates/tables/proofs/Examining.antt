@@ -9,18 +9,18 @@ use borrow.Author.Tests.{lt-ltb, le-ltb, eq-eqb, ne_eqb}
 use lib.ListN.{length}
 use Rattle.problem.specs.Lowest.{lowest}
 use Rattle.problem.specs.Tables.{Tables, boats, listed, lower, higher, start}
-use Rattle.problem.specs.Replies.{Told, refused, refusalTold}
+use Rattle.problem.specs.Replies.{Told, refused, refusal_told}
 use Rattle.problem.specs.declared.Refusal.{Refusal}
-use Rattle.problem.proofs.Lowest.{lowest-here, lowest-none, none-lowest}
+use Rattle.problem.proofs.Lowest.{lowest_here, lowest_none, none_lowest}
 use Rattle.tables.specs.declared.pairs.Way.TheVariants.{Good, Bad}
-use Rattle.tables.specs.Tests.{says, Test, once, each, eachWay, found, first_of}
+use Rattle.tables.specs.Tests.{says, Test, once, each, each_way, found, first_of}
 use Rattle.tables.specs.Applies.{Fails}
-use Rattle.tables.specs.Examination.{tooManyBoats, badSize, badPairBytes, wayBad, badRowWords, badWord, fineTold, examination}
+use Rattle.tables.specs.Examination.{too_many_boats, is_bad_size, bad_pair_bytes, first_way_bad, bad_row_words, bad_word, fine_told, examination}
 use Rattle.tables.specs.Framed.{Framed}
 use Rattle.tables.specs.Ways.{IsFirst}
-use Rattle.tables.proofs.Bools.{fails-not, passes-not}
-use Rattle.tables.proofs.Causes.{good-size, good-bytes}
-use Rattle.tables.proofs.Ways.{good-pair}
+use Rattle.tables.proofs.Bools.{fails_not, passes_not}
+use Rattle.tables.proofs.Causes.{good_size, good_bytes}
+use Rattle.tables.proofs.Ways.{good_pair}
 
 -- ---- a list of tests
 module _ (test : Test) (rest : List Test) (o : Told) where
@@ -36,104 +36,104 @@ module _ (test : Test) (rest : List Test) (o : Told) where
       ap (λ (b : Bool). elim b as (λ x. Told) [ true ↦ says (test.at (found test)) | false ↦ first_of rest o ])
       (le-ltb (found test) test.count l)
 
-  pub fails-passes : Fails test → first_of (test ∷ rest) o ≡ first_of rest o
-  fails-passes f = passes (omega (arith, lowest-none test.count (λ k. (test.at k).cause) f))
+  pub fails_passes : Fails test → first_of (test ∷ rest) o ≡ first_of rest o
+  fails_passes f = passes (omega (arith, lowest_none test.count (λ k. (test.at k).cause) f))
 
 module _ (number : ℕ) (cause : Bool) (rest : List Test) (o : Told) where
-  pub once-applies : cause ≡ true → first_of (once number cause ∷ rest) o ≡ refused number 0
-  once-applies e =
-      let q = lowest-here 1 (λ k. cause) 0 (omega arith) (λ j h. absurd (omega arith)) e in
+  pub once_applies : cause ≡ true → first_of (once number cause ∷ rest) o ≡ refused number 0
+  once_applies e =
+      let q = lowest_here 1 (λ k. cause) 0 (omega arith) (λ j h. absurd (omega arith)) e in
       applies (once number cause) rest o (omega (arith, q))
 
-  pub once-passes : cause ≡ false → first_of (once number cause ∷ rest) o ≡ first_of rest o
-  once-passes e = fails-passes (once number cause) rest o (λ k h. e)
+  pub once_passes : cause ≡ false → first_of (once number cause ∷ rest) o ≡ first_of rest o
+  once_passes e = fails_passes (once number cause) rest o (λ k h. e)
 
 -- ---- the examination, test by test, as the code goes through them
 abbrev from7 : Tables → List Test
-from7 t = each 7 (length t.rows) (badWord t) ∷ []
+from7 t = each 7 (length t.rows) (bad_word t) ∷ []
 
 abbrev from6 : Tables → List Test
-from6 t = once 6 (badRowWords t) ∷ from7 t
+from6 t = once 6 (bad_row_words t) ∷ from7 t
 
-abbrev pub pairTest : Tables → Test
-pairTest t = eachWay (listed t.pairs) (wayBad (boats t) t.pairs)
+abbrev pub pair_test : Tables → Test
+pair_test t = each_way (listed t.pairs) (first_way_bad (boats t) t.pairs)
 
 abbrev from51 : Tables → List Test
-from51 t = pairTest t ∷ from6 t
+from51 t = pair_test t ∷ from6 t
 
 abbrev from4 : Tables → List Test
-from4 t = once 4 (badPairBytes t.pairs) ∷ from51 t
+from4 t = once 4 (bad_pair_bytes t.pairs) ∷ from51 t
 
 abbrev from3 : Tables → List Test
-from3 t = each 3 (boats t) (badSize t.sizes) ∷ from4 t
+from3 t = each 3 (boats t) (is_bad_size t.sizes) ∷ from4 t
 
 module _ (t : Tables) where
-  pub examined-2 : 64 < boats t → refused 2 0 ≡ examination t
+  pub examined_2 : 64 < boats t → refused 2 0 ≡ examination t
   unfolding examination
-  examined-2 l = sym (once-applies 2 (tooManyBoats t) (from3 t) (fineTold t) (lt-ltb 64 (boats t) l))
+  examined_2 l = sym (once_applies 2 (too_many_boats t) (from3 t) (fine_told t) (lt-ltb 64 (boats t) l))
 
   module _ (few : boats t ≤ 64) where
-    past-2 : first_of (from3 t) (fineTold t) ≡ examination t
+    past_2 : first_of (from3 t) (fine_told t) ≡ examination t
     unfolding examination
-    past-2 = sym (once-passes 2 (tooManyBoats t) (from3 t) (fineTold t) (le-ltb 64 (boats t) few))
+    past_2 = sym (once_passes 2 (too_many_boats t) (from3 t) (fine_told t) (le-ltb 64 (boats t) few))
 
-    module _ {boat : ℕ} (is-boat : boat ≡ lowest (boats t) (badSize t.sizes)) where
-      pub examined-3 : boat < boats t → refused 3 boat ≡ examination t
-      examined-3 l =
+    module _ {boat : ℕ} (is-boat : boat ≡ lowest (boats t) (is_bad_size t.sizes)) where
+      pub examined_3 : boat < boats t → refused 3 boat ≡ examination t
+      examined_3 l =
           ap (refused 3) is-boat
-          ∙ sym (applies (each 3 (boats t) (badSize t.sizes)) (from4 t) (fineTold t) (omega arith))
-          ∙ past-2
+          ∙ sym (applies (each 3 (boats t) (is_bad_size t.sizes)) (from4 t) (fine_told t) (omega arith))
+          ∙ past_2
 
       module _ (sized : boats t ≤ boat) where
-        past-3 : first_of (from4 t) (fineTold t) ≡ examination t
-        past-3 = sym (passes (each 3 (boats t) (badSize t.sizes)) (from4 t) (fineTold t) (omega arith)) ∙ past-2
+        past_3 : first_of (from4 t) (fine_told t) ≡ examination t
+        past_3 = sym (passes (each 3 (boats t) (is_bad_size t.sizes)) (from4 t) (fine_told t) (omega arith)) ∙ past_2
 
-        pub examined-4 : {odd : Bool} → odd ≡ badPairBytes t.pairs → odd ≡ true → refused 4 0 ≡ examination t
-        examined-4 is_odd e = sym (once-applies 4 (badPairBytes t.pairs) (from51 t) (fineTold t) (sym is_odd ∙ e)) ∙ past-3
+        pub examined_4 : {odd : Bool} → odd ≡ bad_pair_bytes t.pairs → odd ≡ true → refused 4 0 ≡ examination t
+        examined_4 is_odd e = sym (once_applies 4 (bad_pair_bytes t.pairs) (from51 t) (fine_told t) (sym is_odd ∙ e)) ∙ past_3
 
-        module _ {odd : Bool} (is_odd : odd ≡ badPairBytes t.pairs) (even : odd ≡ false) where
-          past-4 : first_of (from51 t) (fineTold t) ≡ examination t
-          past-4 = sym (once-passes 4 (badPairBytes t.pairs) (from51 t) (fineTold t) (sym is_odd ∙ even)) ∙ past-3
+        module _ {odd : Bool} (is_odd : odd ≡ bad_pair_bytes t.pairs) (even : odd ≡ false) where
+          past_4 : first_of (from51 t) (fine_told t) ≡ examination t
+          past_4 = sym (once_passes 4 (bad_pair_bytes t.pairs) (from51 t) (fine_told t) (sym is_odd ∙ even)) ∙ past_3
 
-          pub examined-51 : (why : Refusal) → IsFirst (Bad why) (pairTest t) → refusalTold why ≡ examination t
-          examined-51 why is = is.1 ∙ sym (applies (pairTest t) (from6 t) (fineTold t) is.0) ∙ past-4
+          pub examined_51 : (why : Refusal) → IsFirst (Bad why) (pair_test t) → refusal_told why ≡ examination t
+          examined_51 why is = is.1 ∙ sym (applies (pair_test t) (from6 t) (fine_told t) is.0) ∙ past_4
 
-          module _ (paired : IsFirst Good (pairTest t)) where
-            past-51 : first_of (from6 t) (fineTold t) ≡ examination t
-            past-51 = sym (passes (pairTest t) (from6 t) (fineTold t) paired) ∙ past-4
+          module _ (paired : IsFirst Good (pair_test t)) where
+            past_51 : first_of (from6 t) (fine_told t) ≡ examination t
+            past_51 = sym (passes (pair_test t) (from6 t) (fine_told t) paired) ∙ past_4
 
             good : (k : ℕ) → k < listed t.pairs → (lower t.pairs k < boats t) × (higher t.pairs k < boats t)
             good k l =
-                let q = good-pair (boats t) t.pairs k (none-lowest (listed t.pairs) (λ j. (wayBad (boats t) t.pairs j).cause) paired k l) in
+                let q = good_pair (boats t) t.pairs k (none_lowest (listed t.pairs) (λ j. (first_way_bad (boats t) t.pairs j).cause) paired k l) in
                 (omega arith, q.1)
 
             -- what the sum of the row words asks
             pub summable : (length t.pairs ≤ 4032)
                 × ((listed t.pairs ≤ listed t.pairs) × ((k : ℕ) → k < listed t.pairs → lower t.pairs k < boats t))
-            summable = ((good-bytes t.pairs (sym is_odd ∙ even)).1, (le_refl _, λ k l. (good k l).0))
+            summable = ((good_bytes t.pairs (sym is_odd ∙ even)).1, (le_refl _, λ k l. (good k l).0))
 
             module _ {words : ℕ} (is-words : words ≡ start t.sizes t.pairs (listed t.pairs)) where
-              pub examined-6 : (length t.rows ≡ words → ⊥) → refused 6 0 ≡ examination t
-              examined-6 n =
-                  sym (once-applies 6 (badRowWords t) (from7 t) (fineTold t) (fails-not _ (ne_eqb _ _ (λ e. n (e ∙ sym is-words))))) ∙ past-51
+              pub examined_6 : (length t.rows ≡ words → ⊥) → refused 6 0 ≡ examination t
+              examined_6 n =
+                  sym (once_applies 6 (bad_row_words t) (from7 t) (fine_told t) (fails_not _ (ne_eqb _ _ (λ e. n (e ∙ sym is-words))))) ∙ past_51
 
             module _ {words : ℕ} (is-words : words ≡ start t.sizes t.pairs (listed t.pairs)) (whole : length t.rows ≡ words) where
               -- what the walk of the words asks
               pub framed : Framed t
               framed = record {
-                fewSlots = λ i l. (good-size t.sizes i (none-lowest (boats t) (badSize t.sizes) (omega arith) i l)).1;
-                lowerNamed = λ k l. (good k l).0;
-                higherNamed = λ k l. (good k l).1;
-                rowWords = whole ∙ is-words;
+                few_slots = λ i l. (good_size t.sizes i (none_lowest (boats t) (is_bad_size t.sizes) (omega arith) i l)).1;
+                lower_named = λ k l. (good k l).0;
+                higher_named = λ k l. (good k l).1;
+                row_words = whole ∙ is-words;
               }
 
-              module _ {word : ℕ} (is_IsWord : word ≡ lowest (length t.rows) (badWord t)) where
-                past-6 : first_of (from7 t) (fineTold t) ≡ examination t
-                past-6 = sym (once-passes 6 (badRowWords t) (from7 t) (fineTold t) (passes-not _ (eq-eqb _ _ (whole ∙ is-words)))) ∙ past-51
+              module _ {word : ℕ} (is_IsWord : word ≡ lowest (length t.rows) (bad_word t)) where
+                past_6 : first_of (from7 t) (fine_told t) ≡ examination t
+                past_6 = sym (once_passes 6 (bad_row_words t) (from7 t) (fine_told t) (passes_not _ (eq-eqb _ _ (whole ∙ is-words)))) ∙ past_51
 
-                pub examined-7 : word < length t.rows → refused 7 word ≡ examination t
-                examined-7 l = ap (refused 7) is_IsWord ∙ sym (applies (each 7 (length t.rows) (badWord t)) [] (fineTold t) (omega arith)) ∙ past-6
+                pub examined_7 : word < length t.rows → refused 7 word ≡ examination t
+                examined_7 l = ap (refused 7) is_IsWord ∙ sym (applies (each 7 (length t.rows) (bad_word t)) [] (fine_told t) (omega arith)) ∙ past_6
 
-                pub examined-fine : length t.rows ≤ word → fineTold t ≡ examination t
+                pub examined_fine : length t.rows ≤ word → fine_told t ≡ examination t
                 unfolding first_of
-                examined-fine l = sym (passes (each 7 (length t.rows) (badWord t)) [] (fineTold t) (omega arith)) ∙ past-6
+                examined_fine l = sym (passes (each 7 (length t.rows) (bad_word t)) [] (fine_told t) (omega arith)) ∙ past_6

@@ -1,11 +1,11 @@
 -- Bad pairs of four boats with one slot each, and what No. 1 of document 02 says of them; computed from the definitions.
 -- No row is there, so that number 6 applies too, but where the first boat of the only pair does not exist.
 use Rattle.std.specs.Prelude.{◌≡◌, refl, List, [], ◌∷◌, map, ℕ}
-use Rattle.problem.specs.Lowest.{lowestFrom, lowest, sum}
+use Rattle.problem.specs.Lowest.{lowest_from, lowest, sum}
 use Rattle.problem.specs.Tables.{tables, start}
 use Rattle.problem.specs.Replies.{Told, refused}
 use Rattle.tables.specs.Tests.{first_of}
-use Rattle.tables.specs.Examination.{wayBad, examination}
+use Rattle.tables.specs.Examination.{first_way_bad, examination}
 
 -- listed pairs, and the number and byte that are said
 pub record Case : Type 0 where
@@ -18,11 +18,11 @@ case number byte pairs = record { pairs = pairs; number = number; byte = byte }
 
 -- what the definitions say
 unfoldable pub said_of : Case → Told
-unfolding examination wayBad first_of lowestFrom lowest sum start
+unfolding examination first_way_bad first_of lowest_from lowest sum start
 said_of c = examination (tables (1 ∷ 1 ∷ 1 ∷ 1 ∷ []) c.pairs [])
 
-unfoldable pub badPairs : List Case
-badPairs =
+unfoldable pub bad_pairs : List Case
+bad_pairs =
     -- 51: the first byte that names no boat
     case 51 0 (9 ∷ 0 ∷ [])
     ∷ case 51 1 (0 ∷ 9 ∷ [])
@@ -50,6 +50,6 @@ badPairs =
     ∷ case 54 4 (0 ∷ 1 ∷ 1 ∷ 2 ∷ 0 ∷ 2 ∷ 9 ∷ 9 ∷ [])
     ∷ []
 
-pub bad-pairs-said : map said_of badPairs ≡ map (λ c. refused c.number c.byte) badPairs
-unfolding said_of badPairs
-bad-pairs-said = refl
+pub bad_pairs_said : map said_of bad_pairs ≡ map (λ c. refused c.number c.byte) bad_pairs
+unfolding said_of bad_pairs
+bad_pairs_said = refl

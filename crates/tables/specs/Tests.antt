@@ -16,9 +16,9 @@ abbrev pub says : Fault → Told
 says f = refused f.number f.place
 
 -- of several faults, in their order, the first whose cause is there; where there is none, one without a cause
-abbrev pub firstFault : List Fault → Fault
-firstFault [] = fault 0 0 false
-firstFault (f ∷ fs) = elim f.cause [ true ↦ f | false ↦ firstFault fs ]
+abbrev pub first_fault : List Fault → Fault
+first_fault [] = fault 0 0 false
+first_fault (f ∷ fs) = elim f.cause [ true ↦ f | false ↦ first_fault fs ]
 
 -- a test looks for its fault at 0, 1, .. count - 1, the lowest first
 pub record Test : Type 0 where
@@ -34,8 +34,8 @@ abbrev pub each : (number count : ℕ) → (ℕ → Bool) → Test
 each number count cause = record { count = count; at = λ k. fault number k (cause k) }
 
 -- a test of each of so many pairs: the fault there says number and place
-abbrev pub eachWay : (count : ℕ) → (ℕ → Fault) → Test
-eachWay count way = record { count = count; at = way }
+abbrev pub each_way : (count : ℕ) → (ℕ → Fault) → Test
+each_way count way = record { count = count; at = way }
 
 -- the lowest at which its cause is there; `count` where it is nowhere
 abbrev pub found : Test → ℕ

@@ -2,7 +2,7 @@
 ghost use Rattle.std.specs.Prelude.{◌≡◌};
 ghost use Rattle.problem.specs.Tables.{tables};
 ghost use Rattle.tables.specs.Examination.{examination};
-ghost use Rattle.tables.specs.Replies.{examinedTold};
+ghost use Rattle.tables.specs.Replies.{examined_told};
 
 mod pairs;
 mod rows;
@@ -19,7 +19,7 @@ pub enum Examined {
 
 // Are the tables fit for a run?
 pub fn examine(sizes: &[u8], pairs: &[u8], rows: &[u64]) -> Examined
-    ensures { examinedTold result ≡ examination (tables sizes.now pairs.now rows.now) }
+    ensures { examined_told result ≡ examination (tables sizes.now pairs.now rows.now) }
 {
     if Problem::too_many_boats(sizes.len()) {
         return Examined::Refused(Refusal::Boats);

@@ -1,8 +1,8 @@
 // Numbers 51 to 54: the listed pairs.
 ghost use Rattle.std.specs.Prelude.{◌≡◌, ◌<◌};
 ghost use Rattle.problem.specs.Tables.{listed};
-ghost use Rattle.tables.specs.Tests.{eachWay};
-ghost use Rattle.tables.specs.Examination.{equalOrBelow, notRising, wayBad};
+ghost use Rattle.tables.specs.Tests.{each_way};
+ghost use Rattle.tables.specs.Examination.{equal_or_below, not_rising, first_way_bad};
 ghost use Rattle.tables.specs.Ways.{IsWay, IsFirst};
 
 use problem::Refusal;
@@ -18,7 +18,7 @@ pub enum Way {
 fn is_equal_or_below(pairs: &[u8], pair: usize, before: usize) -> bool
     requires pair_bound { pair < listed pairs.now }
     requires before_bound { before < listed pairs.now }
-    ensures { result ≡ equalOrBelow pairs.now pair before }
+    ensures { result ≡ equal_or_below pairs.now pair before }
 {
     let low = looks::lower_of(pairs, pair);
     let low_before = looks::lower_of(pairs, before);
@@ -31,7 +31,7 @@ fn is_equal_or_below(pairs: &[u8], pair: usize, before: usize) -> bool
 // A pair is equal to or below the one before; the first has none before it.
 fn is_not_rising(pairs: &[u8], pair: usize) -> bool
     requires { pair < listed pairs.now }
-    ensures { result ≡ notRising pairs.now pair }
+    ensures { result ≡ not_rising pairs.now pair }
 {
     if pair == 0 {
         return false;
@@ -42,7 +42,7 @@ fn is_not_rising(pairs: &[u8], pair: usize) -> bool
 // The first of the four ways in which a pair is bad, if it is.
 fn way_bad(boats: usize, pairs: &[u8], pair: usize) -> Way
     requires { pair < listed pairs.now }
-    ensures { IsWay result (wayBad boats pairs.now pair) }
+    ensures { IsWay result (first_way_bad boats pairs.now pair) }
 {
     let low = looks::lower_of(pairs, pair);
     let high = looks::higher_of(pairs, pair);
@@ -68,7 +68,7 @@ fn way_bad(boats: usize, pairs: &[u8], pair: usize) -> Way
 
 // The way in which the lowest bad pair is bad, if there is one.
 pub fn first_bad_pair(boats: usize, pairs: &[u8]) -> Way
-    ensures { IsFirst result (eachWay (listed pairs.now) (wayBad boats pairs.now)) }
+    ensures { IsFirst result (each_way (listed pairs.now) (first_way_bad boats pairs.now)) }
 {
     let count = pairs.len() / 2;
     let mut k: usize = 0;

@@ -1,8 +1,8 @@
 // Number 7: the row words.
 ghost use Rattle.std.specs.Prelude.{◌≡◌, ◌-◌, ◌^◌, ◌≤◌, leb, length, get_or};
-ghost use Rattle.problem.specs.Lowest.{lowest, lowestFrom};
+ghost use Rattle.problem.specs.Lowest.{lowest, lowest_from};
 ghost use Rattle.problem.specs.Tables.{Tables, tables};
-ghost use Rattle.tables.specs.Examination.{badWord};
+ghost use Rattle.tables.specs.Examination.{bad_word};
 ghost use Rattle.tables.specs.Framed.{Framed};
 
 use problem::Problem;
@@ -23,7 +23,7 @@ fn first_wide_word(rows: &[u64], from: usize, to: usize, size: usize) -> usize
     requires from_le_to { from ≤ to }
     requires to_in_bounds { to ≤ length rows.now }
     requires size_bound { size ≤ 64 }
-    ensures { result ≡ lowestFrom from (to - from) (λ w. leb (2 ^ size) (get_or rows.now w 0)) }
+    ensures { result ≡ lowest_from from (to - from) (λ w. leb (2 ^ size) (get_or rows.now w 0)) }
 {
     let mut w = from;
     while w < to {
@@ -40,7 +40,7 @@ pub fn first_bad_word(sizes: &[u8], pairs: &[u8], rows: &[u64]) -> usize
     ghost t: { Tables }
     requires rows_value { tables sizes.now pairs.now rows.now ≡ t }
     requires framed { Framed t }
-    ensures { result ≡ lowest (length t.rows) (badWord t) }
+    ensures { result ≡ lowest (length t.rows) (bad_word t) }
 {
     let count = pairs.len() / 2;
     let mut word: usize = 0;

@@ -12,132 +12,132 @@ use lib.ListN.{length, take}
 use lib.Seq.{length-take-le, take-take}
 use Rattle.problem.specs.Tables.{Tables, boats}
 use Rattle.methods.specs.Machine.{nowhere, back}
-use Rattle.methods.specs.Moves.{Forward, oneBack}
+use Rattle.methods.specs.Moves.{Forward, one_back}
 use Rattle.methods.specs.BM.{Marks, bm, lowered}
-use Rattle.methods.specs.BT.{lookingBack}
-use Rattle.methods.specs.ByPlan.{aheadByPlan}
+use Rattle.methods.specs.BT.{looking_back}
+use Rattle.methods.specs.ByPlan.{ahead_by_plan}
 use Rattle.methods.proofs.Runs.{at}
-use Rattle.words.specs.Places.{lowAt}
+use Rattle.words.specs.Places.{low_at}
 use Rattle.words.specs.Layout.{word, ChangedOnly, Placed}
-use Rattle.words.proofs.ChangedOnly.{only-refl, only-widen, only-take}
-use Rattle.words.proofs.Frames.{same-before, same_after, placed-stays, indexed_stays, linked-stays, firsts-stay, chained-stays}
+use Rattle.words.proofs.ChangedOnly.{only_refl, only_widen, only_take}
+use Rattle.words.proofs.Frames.{same_before, same_after, placed_stays, indexed_stays, linked_stays, firsts_stay, chained_stays}
 use Rattle.visits.specs.declared.Backward.{Backward}
 use Rattle.visits.specs.declared.Backward.TheVariants.{OneBack}
 use Rattle.visits.specs.declared.Unlabelled.{Unlabelled}
 use Rattle.visits.specs.declared.Unlabelled.TheVariants.{Back, NoPlan}
-use Rattle.visits.specs.Visits.{stepsOver}
+use Rattle.visits.specs.Visits.{steps_over}
 use Rattle.looking_back.specs.Kept.{KeptBack}
-use Rattle.marks.specs.Marks.{marksOf, NeverRises}
+use Rattle.marks.specs.Marks.{marks_of, NeverRises}
 use Rattle.live_words.specs.Lives.{Lives}
 use Rattle.live_words.specs.Kept.{KeptAhead}
-use Rattle.live_words.proofs.Live.{lives-stay, blames-kept, blames-less}
+use Rattle.live_words.proofs.Live.{lives_stay, blames_kept, blames_less}
 use Rattle.moves.specs.declared.Moves.TheVariants.{LookingBack, Marking, LookingAhead}
 use Rattle.moves.specs.Memory.{Kept}
 use Rattle.unlabelling.specs.Unlabels.{Leaving, Unlabels}
-use Rattle.unlabelling.specs.Jumps.{stepsBack}
+use Rattle.unlabelling.specs.Jumps.{steps_back}
 
 -- ---- at a boat before
 module _ (t : Tables) (w : List ℕ) {i h : ℕ} (lh : h < i) where
-  placed-back : Placed t w i → Placed t w h
-  placed-back p k lk = p k (omega arith)
+  placed_back : Placed t w i → Placed t w h
+  placed_back p k lk = p k (omega arith)
 
-  lives-back : Lives t w (take i w) i → Lives t w (take h w) h
-  lives-back l k j b lk lj jn lb = rw (take-take k h w lk) (rw (take-take k i w (omega arith)) at (l k j b (omega arith) lj jn lb))
+  lives_back : Lives t w (take i w) i → Lives t w (take h w) h
+  lives_back l k j b lk lj jn lb = rw (take-take k h w lk) (rw (take-take k i w (omega arith)) at (l k j b (omega arith) lj jn lb))
 
 -- ---- boat i is left: the words of the sets, or of b, may have changed
 module _ {t : Tables} {w : List ℕ} {i : ℕ} (g : Leaving t w i) where
-  pub left-few : i < 64
-  left-few = omega (arith, g.boat, g.sane.fewBoats)
+  pub left_few : i < 64
+  left_few = omega (arith, g.boat, g.sane.few_boats)
 
-  pub left-long : i ≤ length w
-  left-long = omega (arith, left-few, g.room)
+  pub left_long : i ≤ length w
+  left_long = omega (arith, left_few, g.room)
 
-  pub left-plan : length (take i w) ≡ i
-  left-plan = length-take-le i w left-long
+  pub left_plan : length (take i w) ≡ i
+  left_plan = length-take-le i w left_long
 
   module _ {w' : List ℕ} {h : ℕ} (o : ChangedOnly 64 128 w w') (lh : h < i) where
-    placed-then : Placed t w i → Placed t w' h
-    placed-then p = placed-stays t w w' h (same-before o (omega (arith, left-few))) (placed-back t w lh p)
+    placed_then : Placed t w i → Placed t w' h
+    placed_then p = placed_stays t w w' h (same_before o (omega (arith, left_few))) (placed_back t w lh p)
 
-    pub back-kept : KeptBack t w i → KeptBack t w' h
-    back-kept q = record { linked = linked-stays t o (omega arith) q.linked; placed = placed-then q.placed }
+    pub back_kept : KeptBack t w i → KeptBack t w' h
+    back_kept q = record { linked = linked_stays t o (omega arith) q.linked; placed = placed_then q.placed }
 
-    pub ahead-kept : {backward : Backward} → KeptAhead backward t w i → KeptAhead backward t w' h
-    ahead-kept {backward} q =
+    pub ahead_kept : {backward : Backward} → KeptAhead backward t w i → KeptAhead backward t w' h
+    ahead_kept {backward} q =
         record {
-          firsts = firsts-stay t w w' g.sane.fewBoats (same_after o (omega arith)) q.firsts;
-          chained = chained-stays t w w' g.sane (same_after o (omega arith)) q.chained;
-          placed = placed-then q.placed;
-          lives = rw (only-take o h (omega (arith, left-few)) (omega (arith, left-long))) (lives-stay t w w' g.sane (take h w) h (same_after o (omega arith)) (lives-back t w lh q.lives));
-          blames = blames-kept t w w' g.sane backward h (same_after o (omega arith)) (same_after o (omega arith)) (blames-less backward t w (omega arith) q.blames);
+          firsts = firsts_stay t w w' g.sane.few_boats (same_after o (omega arith)) q.firsts;
+          chained = chained_stays t w w' g.sane (same_after o (omega arith)) q.chained;
+          placed = placed_then q.placed;
+          lives = rw (only_take o h (omega (arith, left_few)) (omega (arith, left_long))) (lives_stay t w w' g.sane (take h w) h (same_after o (omega arith)) (lives_back t w lh q.lives));
+          blames = blames_kept t w w' g.sane backward h (same_after o (omega arith)) (same_after o (omega arith)) (blames_less backward t w (omega arith) q.blames);
         }
 
 -- ---- one boat back
-pub step_is : (i : ℕ) → (i ≡ 0 → ⊥) → Back (i - 1) ≡ stepsBack i
+pub step_is : (i : ℕ) → (i ≡ 0 → ⊥) → Back (i - 1) ≡ steps_back i
 step_is zero ne = absurd (ne refl)
 step_is (suc h) ne = let e : suc h - 1 ≡ h = omega arith in ap Back e
 
 -- over a forward move that remembers nothing
 module _ (t : Tables) (F : Forward (Unit {0})) (p : List ℕ) where
-  goes-nowhere : length p ≡ 0 → (stepsOver t F OneBack).unlabel tt p ≡ nowhere
-  goes-nowhere e = ap (λ (n : ℕ). oneBack n (λ h. F.put_back h tt)) e
+  goes_nowhere : length p ≡ 0 → (steps_over t F OneBack).unlabel tt p ≡ nowhere
+  goes_nowhere e = ap (λ (n : ℕ). one_back n (λ h. F.put_back h tt)) e
 
-  goes_one : (h : ℕ) → length p ≡ suc h → (stepsOver t F OneBack).unlabel tt p ≡ back h tt
-  goes_one h e = ap (λ (n : ℕ). oneBack n (λ h. F.put_back h tt)) e
+  goes_one : (h : ℕ) → length p ≡ suc h → (steps_over t F OneBack).unlabel tt p ≡ back h tt
+  goes_one h e = ap (λ (n : ℕ). one_back n (λ h. F.put_back h tt)) e
 
-back-steps : {t : Tables} {w : List ℕ} (i : ℕ) → Leaving t w i → KeptBack t w i → Unlabels (LookingBack OneBack) t w i w (stepsBack i)
-back-steps {t} {w} zero g q = record { only = only-refl _ _ w; goes = goes-nowhere t (lookingBack t) (take 0 w) (left-plan g) }
-back-steps {t} {w} (suc h) g q =
+back_steps : {t : Tables} {w : List ℕ} (i : ℕ) → Leaving t w i → KeptBack t w i → Unlabels (LookingBack OneBack) t w i w (steps_back i)
+back_steps {t} {w} zero g q = record { only = only_refl _ _ w; goes = goes_nowhere t (looking_back t) (take 0 w) (left_plan g) }
+back_steps {t} {w} (suc h) g q =
     record {
       below = omega arith;
       same = refl;
-      only = only-refl _ _ w;
-      kept = record { words = back-kept g (only-refl _ _ w) (omega arith) q; sets = tt };
-      goes = goes_one t (lookingBack t) (take (suc h) w) h (left-plan g);
+      only = only_refl _ _ w;
+      kept = record { words = back_kept g (only_refl _ _ w) (omega arith) q; sets = tt };
+      goes = goes_one t (looking_back t) (take (suc h) w) h (left_plan g);
     }
 
-ahead-steps : {t : Tables} {w : List ℕ} (i : ℕ) → Leaving t w i → KeptAhead OneBack t w i → Unlabels (LookingAhead OneBack) t w i w (stepsBack i)
-ahead-steps {t} {w} zero g q = record { only = only-refl _ _ w; goes = goes-nowhere t (aheadByPlan t) (take 0 w) (left-plan g) }
-ahead-steps {t} {w} (suc h) g q =
+ahead_steps : {t : Tables} {w : List ℕ} (i : ℕ) → Leaving t w i → KeptAhead OneBack t w i → Unlabels (LookingAhead OneBack) t w i w (steps_back i)
+ahead_steps {t} {w} zero g q = record { only = only_refl _ _ w; goes = goes_nowhere t (ahead_by_plan t) (take 0 w) (left_plan g) }
+ahead_steps {t} {w} (suc h) g q =
     record {
       below = omega arith;
       same = refl;
-      only = only-refl _ _ w;
-      kept = record { words = ahead-kept g (only-refl _ _ w) (omega arith) q; sets = tt };
-      goes = goes_one t (aheadByPlan t) (take (suc h) w) h (left-plan g);
+      only = only_refl _ _ w;
+      kept = record { words = ahead_kept g (only_refl _ _ w) (omega arith) q; sets = tt };
+      goes = goes_one t (ahead_by_plan t) (take (suc h) w) h (left_plan g);
     }
 
 module _ {t : Tables} {w : List ℕ} {i : ℕ} (g : Leaving t w i) where
-  pub back-by-one : {r : Unlabelled} → r ≡ stepsBack i → KeptBack t w i → Unlabels (LookingBack OneBack) t w i w r
-  back-by-one e q = subst (λ (x : Unlabelled). Unlabels (LookingBack OneBack) t w i w x) (sym e) (back-steps i g q)
+  pub back_by_one : {r : Unlabelled} → r ≡ steps_back i → KeptBack t w i → Unlabels (LookingBack OneBack) t w i w r
+  back_by_one e q = subst (λ (x : Unlabelled). Unlabels (LookingBack OneBack) t w i w x) (sym e) (back_steps i g q)
 
-  pub ahead-by-one : {r : Unlabelled} → r ≡ stepsBack i → KeptAhead OneBack t w i → Unlabels (LookingAhead OneBack) t w i w r
-  ahead-by-one e q = subst (λ (x : Unlabelled). Unlabels (LookingAhead OneBack) t w i w x) (sym e) (ahead-steps i g q)
+  pub ahead_by_one : {r : Unlabelled} → r ≡ steps_back i → KeptAhead OneBack t w i → Unlabels (LookingAhead OneBack) t w i w r
+  ahead_by_one e q = subst (λ (x : Unlabelled). Unlabels (LookingAhead OneBack) t w i w x) (sym e) (ahead_steps i g q)
 
   -- ---- and the marks' b lowered
-  pub marked-none : i ≡ 0 → Unlabels Marking t w i w NoPlan
+  pub marked_none : i ≡ 0 → Unlabels Marking t w i w NoPlan
   unfolding bm
-  marked-none e = record { only = only-refl _ _ w; goes = ap (λ (n : ℕ). oneBack n (λ h. lowered (marksOf w) (length (take i w)) h)) (left-plan g ∙ e) }
+  marked_none e = record { only = only_refl _ _ w; goes = ap (λ (n : ℕ). one_back n (λ h. lowered (marks_of w) (length (take i w)) h)) (left_plan g ∙ e) }
 
-  pub marked-back : Kept Marking t w i → (i ≡ 0 → ⊥) → {w' : List ℕ} → marksOf w' ≡ lowered (marksOf w) i (i - 1) → ChangedOnly (lowAt i) (lowAt (boats t)) w w' →
+  pub marked_back : Kept Marking t w i → (i ≡ 0 → ⊥) → {w' : List ℕ} → marks_of w' ≡ lowered (marks_of w) i (i - 1) → ChangedOnly (low_at i) (low_at (boats t)) w w' →
       Unlabels Marking t w i w' (Back (i - 1))
   unfolding bm
-  marked-back q ne {w'} e o =
-      let few = g.sane.fewBoats in
-      let wide : ChangedOnly 64 128 w w' = only-widen (omega arith) (omega arith) o in
+  marked_back q ne {w'} e o =
+      let few = g.sane.few_boats in
+      let wide : ChangedOnly 64 128 w w' = only_widen (omega arith) (omega arith) o in
       record {
         below = omega arith;
-        same = only-take o (suc (i - 1)) (omega arith) (omega (arith, left-long g));
-        only = only-widen (omega arith) (omega arith) o;
+        same = only_take o (suc (i - 1)) (omega arith) (omega (arith, left_long g));
+        only = only_widen (omega arith) (omega arith) o;
         kept = record {
           indexed = indexed_stays t w w' few (same_after wide (omega arith)) q.indexed;
-          placed = placed-then g wide (omega arith) q.placed;
+          placed = placed_then g wide (omega arith) q.placed;
           none = λ k lo hi. o.others k (inr lo) ∙ q.none k lo hi;
           falls = falls;
         };
         goes =
-            ap (λ (n : ℕ). oneBack n (λ h. lowered (marksOf w) n h)) (left-plan g ∙ before)
-            ∙ ap (λ (n : ℕ). back (i - 1) (lowered (marksOf w) n (i - 1))) (sym before)
+            ap (λ (n : ℕ). one_back n (λ h. lowered (marks_of w) n h)) (left_plan g ∙ before)
+            ∙ ap (λ (n : ℕ). back (i - 1) (lowered (marks_of w) n (i - 1))) (sym before)
             ∙ ap (back (i - 1)) (sym e);
       }
     where

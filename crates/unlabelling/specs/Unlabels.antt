@@ -8,7 +8,7 @@ use Rattle.words.specs.Layout.{ChangedOnly}
 use Rattle.visits.specs.declared.Unlabelled.{Unlabelled}
 use Rattle.visits.specs.declared.Unlabelled.TheVariants.{Back, NoPlan}
 use Rattle.moves.specs.declared.Moves.{Moves}
-use Rattle.moves.specs.Memory.{stepsBy, memory, Kept}
+use Rattle.moves.specs.Memory.{steps_by, memory, Kept}
 
 -- boat i is left, with no slot: tables that keep every rule, a boat that is there, and the words that a run has
 pub record Leaving (t : Tables) (w : List ℕ) (i : ℕ) : Type 0 where
@@ -22,12 +22,12 @@ pub record GoesBack (moves : Moves) (t : Tables) (w : List ℕ) (i : ℕ) (w' : 
   pub same : take (suc h) w' ≡ take (suc h) w
   pub only : ChangedOnly 0 used w w'
   pub kept : Kept moves t w' h
-  pub goes : (stepsBy moves t).unlabel (memory moves w i) (take i w) ≡ back h (memory moves w' h)
+  pub goes : (steps_by moves t).unlabel (memory moves w i) (take i w) ≡ back h (memory moves w' h)
 
 -- nowhere to go back to
 pub record GoesNowhere (moves : Moves) (t : Tables) (w : List ℕ) (i : ℕ) (w' : List ℕ) : Type 0 where
   pub only : ChangedOnly 0 used w w'
-  pub goes : (stepsBy moves t).unlabel (memory moves w i) (take i w) ≡ nowhere
+  pub goes : (steps_by moves t).unlabel (memory moves w i) (take i w) ≡ nowhere
 
 abbrev pub Unlabels : Moves → Tables → List ℕ → (i : ℕ) → List ℕ → Unlabelled → Type 0
 Unlabels moves t w i w' (Back h) = GoesBack moves t w i w' h

@@ -6,7 +6,7 @@ ghost use Rattle.words.specs.Sets.{SetsBelow};
 ghost use Rattle.moves.specs.declared.Moves.TheVariants.{Marking};
 ghost use Rattle.moves.specs.Memory.{Kept};
 ghost use Rattle.unlabelling.specs.Unlabels.{Leaving, Unlabels};
-ghost use Rattle.unlabelling.specs.Jumps.{stepsBack, JumpsBack};
+ghost use Rattle.unlabelling.specs.Jumps.{steps_back, JumpsBack};
 
 use moves::Moves;
 use visits::{Backward, Unlabelled};
@@ -14,7 +14,7 @@ use words::Words;
 
 // Back by one boat; from boat 0: no plan.
 fn step_back(i: usize) -> Unlabelled
-    ensures { result ≡ stepsBack i }
+    ensures { result ≡ steps_back i }
 {
     if i == 0 {
         return Unlabelled::NoPlan;

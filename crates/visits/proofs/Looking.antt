@@ -8,45 +8,45 @@ use native.Mathlib.Omega.{arith}
 use native.Mathlib.Numerals.{add-one}
 use lib.ListN.{length, take, drop, length-append, length-drop, drop_of_length-le}
 use lib.Seq.{length-take-le, get_or-take, drop-cons}
-use Rattle.problem.specs.Tables.{Tables, isListed}
+use Rattle.problem.specs.Tables.{Tables, is_listed}
 use Rattle.problem.specs.declared.Allowance.{Allowance}
 use Rattle.problem.specs.declared.Allowance.TheVariants.{Checks}
 use Rattle.events.specs.declared.Counts.{Counts}
 use Rattle.events.specs.declared.Counted.{Counted}
 use Rattle.events.specs.declared.Counted.TheVariants.{Within, Out as CountedOut}
-use Rattle.events.specs.Events.{Event, check, trialsOf, trials}
-use Rattle.events.specs.Counts.{checkCounted, Fits, Makes, StopsIn}
-use Rattle.events.proofs.Counting.{trials-append}
-use Rattle.events.proofs.Leading.{makes_none, makes-append, makes-eq, makes-check, check-stops, stops-behind, stops-eq, stops-count, length-made}
-use Rattle.methods.specs.Choices.{mayStand}
-use Rattle.methods.specs.BT.{Looked, lookAt, lookBack}
+use Rattle.events.specs.Events.{Event, check, trials_of, trials}
+use Rattle.events.specs.Counts.{check_counted, Fits, Makes, StopsIn}
+use Rattle.events.proofs.Counting.{trials_append}
+use Rattle.events.proofs.Leading.{makes_none, makes_append, makes_eq, makes_check, check_stops, stops_behind, stops_eq, stops_count, length_made}
+use Rattle.methods.specs.Choices.{may_stand}
+use Rattle.methods.specs.BT.{Looked, look_at, look_back}
 use Rattle.words.specs.Layout.{word}
 use Rattle.visits.specs.declared.Look.{Look}
 use Rattle.visits.specs.declared.Look.TheVariants.{Allowed, Forbidden, OutOfChecks}
-use Rattle.visits.specs.Looks.{checkedLook}
+use Rattle.visits.specs.Looks.{checked_look}
 
 -- what a look comes to, by the pair: an unlisted one costs no check
 abbrev pub look_of : (listed may : Bool) → Counts → Look
 look_of false may m = Allowed m
-look_of true may m = checkedLook may (checkCounted m)
+look_of true may m = checked_look may (check_counted m)
 
 -- what the code's look says of the counts
-allowed-case : (o : Bool) (c : Counted) (k : Counts) → checkedLook o c ≡ Allowed k → (o ≡ true) × (c ≡ Within k)
-allowed-case true (Within n) k e = (refl, cc)
-allowed-case false (Within n) k e = let z : ◌≡◌ {A = ℕ} 0 1 = cc in absurd (omega arith)
-allowed-case true CountedOut k e = let z : ◌≡◌ {A = ℕ} 0 1 = cc in absurd (omega arith)
-allowed-case false CountedOut k e = let z : ◌≡◌ {A = ℕ} 0 1 = cc in absurd (omega arith)
+allowed_case : (o : Bool) (c : Counted) (k : Counts) → checked_look o c ≡ Allowed k → (o ≡ true) × (c ≡ Within k)
+allowed_case true (Within n) k e = (refl, cc)
+allowed_case false (Within n) k e = let z : ◌≡◌ {A = ℕ} 0 1 = cc in absurd (omega arith)
+allowed_case true CountedOut k e = let z : ◌≡◌ {A = ℕ} 0 1 = cc in absurd (omega arith)
+allowed_case false CountedOut k e = let z : ◌≡◌ {A = ℕ} 0 1 = cc in absurd (omega arith)
 
-forbidden-case : (o : Bool) (c : Counted) (k : Counts) → checkedLook o c ≡ Forbidden k → (o ≡ false) × (c ≡ Within k)
-forbidden-case true (Within n) k e = let z : ◌≡◌ {A = ℕ} 0 1 = cc in absurd (omega arith)
-forbidden-case false (Within n) k e = (refl, cc)
-forbidden-case true CountedOut k e = let z : ◌≡◌ {A = ℕ} 0 1 = cc in absurd (omega arith)
-forbidden-case false CountedOut k e = let z : ◌≡◌ {A = ℕ} 0 1 = cc in absurd (omega arith)
+forbidden_case : (o : Bool) (c : Counted) (k : Counts) → checked_look o c ≡ Forbidden k → (o ≡ false) × (c ≡ Within k)
+forbidden_case true (Within n) k e = let z : ◌≡◌ {A = ℕ} 0 1 = cc in absurd (omega arith)
+forbidden_case false (Within n) k e = (refl, cc)
+forbidden_case true CountedOut k e = let z : ◌≡◌ {A = ℕ} 0 1 = cc in absurd (omega arith)
+forbidden_case false CountedOut k e = let z : ◌≡◌ {A = ℕ} 0 1 = cc in absurd (omega arith)
 
-out-case : (o : Bool) (c : Counted) → checkedLook o c ≡ OutOfChecks → c ≡ CountedOut
-out-case true (Within n) e = let z : ◌≡◌ {A = ℕ} 0 1 = cc in absurd (omega arith)
-out-case false (Within n) e = let z : ◌≡◌ {A = ℕ} 0 1 = cc in absurd (omega arith)
-out-case o CountedOut e = refl
+out_case : (o : Bool) (c : Counted) → checked_look o c ≡ OutOfChecks → c ≡ CountedOut
+out_case true (Within n) e = let z : ◌≡◌ {A = ℕ} 0 1 = cc in absurd (omega arith)
+out_case false (Within n) e = let z : ◌≡◌ {A = ℕ} 0 1 = cc in absurd (omega arith)
+out_case o CountedOut e = refl
 
 -- ---- checks that are made before what is found further on
 abbrev pub behind : List Event → Looked → Looked
@@ -56,48 +56,48 @@ behind_more : (es : List Event) (e : Event) (r : Looked) → behind es (behind (
 behind_more es e r = ap (λ (l : List Event). record { checks = l; failing = r.failing }) (sym (append_assoc es (e ∷ []) r.checks))
 
 -- a boat is looked at once at most
-looks-few : (t : Tables) (i a h : ℕ) (xs : List ℕ) → length (lookBack t i a h xs).checks ≤ length xs
-unfolding lookBack
-looks-few t i a h [] = omega arith
-looks-few t i a h (x ∷ xs) = by (isListed t.pairs h i) (mayStand t h x i a) (looks-few t i a (suc h) xs)
+looks_few : (t : Tables) (i a h : ℕ) (xs : List ℕ) → length (look_back t i a h xs).checks ≤ length xs
+unfolding look_back
+looks_few t i a h [] = omega arith
+looks_few t i a h (x ∷ xs) = by (is_listed t.pairs h i) (may_stand t h x i a) (looks_few t i a (suc h) xs)
   where
-    by : (l o : Bool) → length (lookBack t i a (suc h) xs).checks ≤ length xs →
-        length (lookAt h (check h x i a) l o (lookBack t i a (suc h) xs)).checks ≤ suc (length xs)
+    by : (l o : Bool) → length (look_back t i a (suc h) xs).checks ≤ length xs →
+        length (look_at h (check h x i a) l o (look_back t i a (suc h) xs)).checks ≤ suc (length xs)
     by false o k = omega arith
     by true true k = omega arith
     by true false k = omega arith
 
 -- so of the looks of a choice fewer are made than there are boats, where the next one is not
-pub looks-made-few : (t : Tables) (w : List ℕ) (i a h : ℕ) → i ≤ length w → {m n : Counts} {which : Allowance} {d : ℕ} →
-    StopsIn m (lookBack t i a h (drop h (take i w))).checks which d n → d < i
-looks-made-few t w i a h le z =
+pub looks_made_few : (t : Tables) (w : List ℕ) (i a h : ℕ) → i ≤ length w → {m n : Counts} {which : Allowance} {d : ℕ} →
+    StopsIn m (look_back t i a h (drop h (take i w))).checks which d n → d < i
+looks_made_few t w i a h le z =
     omega
-    (arith, z.count, simp length-append at (ap length z.split), looks-few t i a h (drop h (take i w)), length-drop h (take i w), length-take-le i w le)
+    (arith, z.count, simp length-append at (ap length z.split), looks_few t i a h (drop h (take i w)), length-drop h (take i w), length-take-le i w le)
 
 -- choice a of boat i: `whole` is what its looks come to, from the counts m on; the boats below h have been looked at, and the counts are n
 pub record Looking (t : Tables) (w : List ℕ) (i a : ℕ) (whole : Looked) (m : Counts) (h : ℕ) (n : Counts) : Type 0 where
   pub made : List Event
   pub only : trials made ≡ 0
-  pub split : whole ≡ behind made (lookBack t i a h (drop h (take i w)))
+  pub split : whole ≡ behind made (look_back t i a h (drop h (take i w)))
   pub makes : Makes m made n
 
 -- at the first look
-pub looks-begin : (t : Tables) (w : List ℕ) (i a h : ℕ) (m : Counts) → Fits m → Looking t w i a (lookBack t i a h (drop h (take i w))) m h m
-unfolding trialsOf
-looks-begin t w i a h m f = record { made = []; only = refl; split = refl; makes = makes_none m f }
+pub looks_begin : (t : Tables) (w : List ℕ) (i a h : ℕ) (m : Counts) → Fits m → Looking t w i a (look_back t i a h (drop h (take i w))) m h m
+unfolding trials_of
+looks_begin t w i a h m f = record { made = []; only = refl; split = refl; makes = makes_none m f }
 
 module _ {t : Tables} {w : List ℕ} {i a : ℕ} {whole : Looked} {m : Counts} {h : ℕ} {n : Counts} (le : i ≤ length w) (b : Looking t w i a whole m h n) where
   -- as many checks are made as the count has risen
-  pub looks-made : length b.made ≡ n.checks - m.checks
-  looks-made = length-made b.makes b.only
+  pub looks_made : length b.made ≡ n.checks - m.checks
+  looks_made = length_made b.makes b.only
 
   -- past the last placed boat: nobody fails
-  pub looks-end : i ≤ h → (whole.failing ≡ none) × Makes m whole.checks n
-  unfolding lookBack
-  looks-end lh =
+  pub looks_end : i ≤ h → (whole.failing ≡ none) × Makes m whole.checks n
+  unfolding look_back
+  looks_end lh =
       let e : whole ≡ behind b.made (record { checks = []; failing = none }) =
-      b.split ∙ ap (λ (xs : List ℕ). behind b.made (lookBack t i a h xs)) (drop_of_length-le (take i w) {i = h} (omega (arith, length-take-le i w le))) in
-      (ap (λ (r : Looked). r.failing) e, makes-eq (sym (ap (λ (r : Looked). r.checks) e)) (makes-append b.makes (makes_none n b.makes.fits)))
+      b.split ∙ ap (λ (xs : List ℕ). behind b.made (look_back t i a h xs)) (drop_of_length-le (take i w) {i = h} (omega (arith, length-take-le i w le))) in
+      (ap (λ (r : Looked). r.failing) e, makes_eq (sym (ap (λ (r : Looked). r.checks) e)) (makes_append b.makes (makes_none n b.makes.fits)))
 
   module _ (lh : h < i) where
     at_next : drop h (take i w) ≡ word w h ∷ drop (suc h) (take i w)
@@ -105,68 +105,68 @@ module _ {t : Tables} {w : List ℕ} {i a : ℕ} {whole : Looked} {m : Counts} {
 
     -- what is found further on
     abbrev rest : Looked
-    rest = lookBack t i a (suc h) (drop (suc h) (take i w))
+    rest = look_back t i a (suc h) (drop (suc h) (take i w))
 
     abbrev due : Event
     due = check h (word w h) i a
 
-    open-look : (l o : Bool) → isListed t.pairs h i ≡ l → mayStand t h (word w h) i a ≡ o → whole ≡ behind b.made (lookAt h due l o rest)
-    unfolding lookBack
-    open-look l o el eo =
-        b.split ∙ ap (λ (xs : List ℕ). behind b.made (lookBack t i a h xs)) at_next
-        ∙ ap (λ (x : Bool). behind b.made (lookAt h due x (mayStand t h (word w h) i a) rest)) el
-        ∙ ap (λ (x : Bool). behind b.made (lookAt h due l x rest)) eo
+    open_look : (l o : Bool) → is_listed t.pairs h i ≡ l → may_stand t h (word w h) i a ≡ o → whole ≡ behind b.made (look_at h due l o rest)
+    unfolding look_back
+    open_look l o el eo =
+        b.split ∙ ap (λ (xs : List ℕ). behind b.made (look_back t i a h xs)) at_next
+        ∙ ap (λ (x : Bool). behind b.made (look_at h due x (may_stand t h (word w h) i a) rest)) el
+        ∙ ap (λ (x : Bool). behind b.made (look_at h due l x rest)) eo
 
     -- an unlisted boat costs no check
-    pub looks-past : isListed t.pairs h i ≡ false → Looking t w i a whole m (suc h) n
-    looks-past e = record { made = b.made; only = b.only; split = open-look false _ e refl; makes = b.makes }
+    pub looks_past : is_listed t.pairs h i ≡ false → Looking t w i a whole m (suc h) n
+    looks_past e = record { made = b.made; only = b.only; split = open_look false _ e refl; makes = b.makes }
 
-    module _ (r : Look) (k : Counts) (e : r ≡ look_of (isListed t.pairs h i) (mayStand t h (word w h) i a) n) where
+    module _ (r : Look) (k : Counts) (e : r ≡ look_of (is_listed t.pairs h i) (may_stand t h (word w h) i a) n) where
       -- one check more
-      counted : checkCounted n ≡ Within k → Makes m (b.made ++ (due ∷ [])) k
-      counted c = makes-append b.makes (makes-check n k b.makes.fits h (word w h) i a c)
+      counted : check_counted n ≡ Within k → Makes m (b.made ++ (due ∷ [])) k
+      counted c = makes_append b.makes (makes_check n k b.makes.fits h (word w h) i a c)
 
       one_more : trials (b.made ++ (due ∷ [])) ≡ 0
-      unfolding trialsOf
-      one_more = trials-append b.made (due ∷ []) ∙ ap (λ (x : ℕ). x + 0) b.only
+      unfolding trials_of
+      one_more = trials_append b.made (due ∷ []) ∙ ap (λ (x : ℕ). x + 0) b.only
 
-      pub looks-allowed : r ≡ Allowed k → Looking t w i a whole m (h + 1) k
-      looks-allowed f = rw add-one (by (isListed t.pairs h i) refl (sym e ∙ f))
+      pub looks_allowed : r ≡ Allowed k → Looking t w i a whole m (h + 1) k
+      looks_allowed f = rw add-one (by (is_listed t.pairs h i) refl (sym e ∙ f))
         where
-          by : (l : Bool) → isListed t.pairs h i ≡ l → look_of l (mayStand t h (word w h) i a) n ≡ Allowed k → Looking t w i a whole m (suc h) k
-          by false el g = let z : n ≡ k = cc in subst (λ (x : Counts). Looking t w i a whole m (suc h) x) z (looks-past el)
+          by : (l : Bool) → is_listed t.pairs h i ≡ l → look_of l (may_stand t h (word w h) i a) n ≡ Allowed k → Looking t w i a whole m (suc h) k
+          by false el g = let z : n ≡ k = cc in subst (λ (x : Counts). Looking t w i a whole m (suc h) x) z (looks_past el)
           by true el g =
-              let q = allowed-case (mayStand t h (word w h) i a) (checkCounted n) k g in
+              let q = allowed_case (may_stand t h (word w h) i a) (check_counted n) k g in
               record {
                 made = b.made ++ (due ∷ []);
                 only = one_more;
-                split = open-look true true el q.0 ∙ behind_more b.made due rest;
+                split = open_look true true el q.0 ∙ behind_more b.made due rest;
                 makes = counted q.1;
               }
 
-      pub looks-forbidden : r ≡ Forbidden k → (whole.failing ≡ some h) × Makes m whole.checks k
-      looks-forbidden f = by (isListed t.pairs h i) refl (sym e ∙ f)
+      pub looks_forbidden : r ≡ Forbidden k → (whole.failing ≡ some h) × Makes m whole.checks k
+      looks_forbidden f = by (is_listed t.pairs h i) refl (sym e ∙ f)
         where
-          by : (l : Bool) → isListed t.pairs h i ≡ l → look_of l (mayStand t h (word w h) i a) n ≡ Forbidden k → (whole.failing ≡ some h) × Makes m whole.checks k
+          by : (l : Bool) → is_listed t.pairs h i ≡ l → look_of l (may_stand t h (word w h) i a) n ≡ Forbidden k → (whole.failing ≡ some h) × Makes m whole.checks k
           by false el g = let z : ◌≡◌ {A = ℕ} 0 1 = cc in absurd (omega arith)
           by true el g =
-              let q = forbidden-case (mayStand t h (word w h) i a) (checkCounted n) k g in
-              let s = open-look true false el q.0 in
-              (ap (λ (x : Looked). x.failing) s, makes-eq (sym (ap (λ (x : Looked). x.checks) s)) (counted q.1))
+              let q = forbidden_case (may_stand t h (word w h) i a) (check_counted n) k g in
+              let s = open_look true false el q.0 in
+              (ap (λ (x : Looked). x.failing) s, makes_eq (sym (ap (λ (x : Looked). x.checks) s)) (counted q.1))
 
     -- the next check is not covered: the counts stay
-    pub looks-out : look_of (isListed t.pairs h i) (mayStand t h (word w h) i a) n ≡ OutOfChecks → StopsIn m whole.checks Checks (n.checks - m.checks) n
-    looks-out = by (isListed t.pairs h i) refl
+    pub looks_out : look_of (is_listed t.pairs h i) (may_stand t h (word w h) i a) n ≡ OutOfChecks → StopsIn m whole.checks Checks (n.checks - m.checks) n
+    looks_out = by (is_listed t.pairs h i) refl
       where
-        stopped : checkCounted n ≡ CountedOut → (es : List Event) → whole.checks ≡ b.made ++ due ∷ es → StopsIn m whole.checks Checks (n.checks - m.checks) n
+        stopped : check_counted n ≡ CountedOut → (es : List Event) → whole.checks ≡ b.made ++ due ∷ es → StopsIn m whole.checks Checks (n.checks - m.checks) n
         stopped c es s =
-            let z : length b.made + 0 ≡ n.checks - m.checks = omega (arith, looks-made) in
-            stops-eq (sym s) (stops-count z (stops-behind b.makes (check-stops n b.makes.fits h (word w h) i a es c)))
+            let z : length b.made + 0 ≡ n.checks - m.checks = omega (arith, looks_made) in
+            stops_eq (sym s) (stops_count z (stops_behind b.makes (check_stops n b.makes.fits h (word w h) i a es c)))
 
-        on : (o : Bool) → mayStand t h (word w h) i a ≡ o → isListed t.pairs h i ≡ true → checkCounted n ≡ CountedOut → StopsIn m whole.checks Checks (n.checks - m.checks) n
-        on true eo el c = stopped c rest.checks (ap (λ (x : Looked). x.checks) (open-look true true el eo))
-        on false eo el c = stopped c [] (ap (λ (x : Looked). x.checks) (open-look true false el eo))
+        on : (o : Bool) → may_stand t h (word w h) i a ≡ o → is_listed t.pairs h i ≡ true → check_counted n ≡ CountedOut → StopsIn m whole.checks Checks (n.checks - m.checks) n
+        on true eo el c = stopped c rest.checks (ap (λ (x : Looked). x.checks) (open_look true true el eo))
+        on false eo el c = stopped c [] (ap (λ (x : Looked). x.checks) (open_look true false el eo))
 
-        by : (l : Bool) → isListed t.pairs h i ≡ l → look_of l (mayStand t h (word w h) i a) n ≡ OutOfChecks → StopsIn m whole.checks Checks (n.checks - m.checks) n
+        by : (l : Bool) → is_listed t.pairs h i ≡ l → look_of l (may_stand t h (word w h) i a) n ≡ OutOfChecks → StopsIn m whole.checks Checks (n.checks - m.checks) n
         by false el g = let z : ◌≡◌ {A = ℕ} 0 1 = cc in absurd (omega arith)
-        by true el g = on (mayStand t h (word w h) i a) refl el (out-case (mayStand t h (word w h) i a) (checkCounted n) g)
+        by true el g = on (may_stand t h (word w h) i a) refl el (out_case (may_stand t h (word w h) i a) (check_counted n) g)

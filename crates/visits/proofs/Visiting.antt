@@ -13,13 +13,13 @@ use Rattle.methods.specs.Choices.{choices}
 use Rattle.methods.specs.Machine.{next, step}
 use Rattle.methods.specs.Moves.{Boats, Verdict, pass, fail, Forward, stepping}
 use Rattle.methods.specs.CBJ.{blamed, jumping}
-use Rattle.methods.proofs.Runs.{step_skip, step-fail, step-pass}
-use Rattle.methods.proofs.Shown.{choices-size}
+use Rattle.methods.proofs.Runs.{step_skip, step_fail, step_pass}
+use Rattle.methods.proofs.Shown.{choices_size}
 use Rattle.words.specs.Layout.{word}
-use Rattle.words.specs.Sets.{setWords}
+use Rattle.words.specs.Sets.{set_words}
 use Rattle.visits.specs.declared.Backward.{Backward}
 use Rattle.visits.specs.declared.Backward.TheVariants.{OneBack, BySets}
-use Rattle.visits.specs.Visits.{State, stepsOver, state}
+use Rattle.visits.specs.Visits.{State, steps_over, state}
 
 -- what is remembered of a trial of boat i that failed, with these boats to blame
 abbrev fell : (backward : Backward) → State backward → (i : ℕ) → Boats → State backward
@@ -28,7 +28,7 @@ fell BySets σ i blame = record { sets = blamed σ.sets i {S = Unit {0}} (fail b
 
 -- ---- one step
 module _ (t : Tables) (F : Forward (Unit {0})) (p : List ℕ) (a : ℕ) (lp : length p < boats t) (la : a < choices t (length p)) where
-  skips : (backward : Backward) (σ : State backward) → F.live tt p a ≡ false → step t (stepsOver t F backward) p a σ ≡ next [] p (suc a) σ
+  skips : (backward : Backward) (σ : State backward) → F.live tt p a ≡ false → step t (steps_over t F backward) p a σ ≡ next [] p (suc a) σ
   skips OneBack σ e = step_skip t (stepping F) p a σ lp la e
   skips BySets σ e = step_skip t (jumping t F) p a σ lp la e
 
@@ -38,21 +38,21 @@ module _ (t : Tables) (F : Forward (Unit {0})) (p : List ℕ) (a : ℕ) (lp : le
 
   module _ (live : F.live tt p a ≡ true) where
     passes : (backward : Backward) (σ : State backward) (τ : Unit {0}) → (F.trial tt p a).verdict ≡ pass τ →
-        step t (stepsOver t F backward) p a σ ≡ next tries (p ++ (a ∷ [])) 0 σ
-    passes OneBack σ τ e = step-pass t (stepping F) p a σ lp la live (rw e)
-    passes BySets σ τ e = rw e at (step-pass t (jumping t F) p a σ lp la live (rw e))
+        step t (steps_over t F backward) p a σ ≡ next tries (p ++ (a ∷ [])) 0 σ
+    passes OneBack σ τ e = step_pass t (stepping F) p a σ lp la live (rw e)
+    passes BySets σ τ e = rw e at (step_pass t (jumping t F) p a σ lp la live (rw e))
 
     fails : (backward : Backward) (σ : State backward) (blame : Boats) → (F.trial tt p a).verdict ≡ fail blame →
-        step t (stepsOver t F backward) p a σ ≡ next tries p (suc a) (fell backward σ (length p) blame)
-    fails OneBack σ blame e = step-fail t (stepping F) p a σ lp la live (rw e)
-    fails BySets σ blame e = rw e at (step-fail t (jumping t F) p a σ lp la live (rw e))
+        step t (steps_over t F backward) p a σ ≡ next tries p (suc a) (fell backward σ (length p) blame)
+    fails OneBack σ blame e = step_fail t (stepping F) p a σ lp la live (rw e)
+    fails BySets σ blame e = rw e at (step_fail t (jumping t F) p a σ lp la live (rw e))
 
 -- ---- over the words
 -- boat i's set takes in the boats to blame; stepping back, it is whatever it is
-fell-words : (backward : Backward) (w : List ℕ) (i s u : ℕ) (blame : Boats) → (backward ≡ BySets → (j : ℕ) → bit u j ≡ (bit s j || blame j)) →
-    fell backward (state backward (setWords w i s)) i blame ≡ state backward (setWords w i u)
-fell-words OneBack w i s u blame e = refl
-fell-words BySets w i s u blame e = λ d. record { sets = fun_ext (λ k. fun_ext (λ j. by j (eqb k i) (cond (ltb k i) (word w (64 + k)) 0))) d; rest = tt }
+fell_words : (backward : Backward) (w : List ℕ) (i s u : ℕ) (blame : Boats) → (backward ≡ BySets → (j : ℕ) → bit u j ≡ (bit s j || blame j)) →
+    fell backward (state backward (set_words w i s)) i blame ≡ state backward (set_words w i u)
+fell_words OneBack w i s u blame e = refl
+fell_words BySets w i s u blame e = λ d. record { sets = fun_ext (λ k. fun_ext (λ j. by j (eqb k i) (cond (ltb k i) (word w (64 + k)) 0))) d; rest = tt }
   where
     by : (j : ℕ) (own : Bool) (r : ℕ) → cond own (bit (cond own s r) j || blame j) (bit (cond own s r) j) ≡ bit (cond own u r) j
     by j true r = sym (e refl j)
@@ -65,36 +65,36 @@ module _ (t : Tables) (F : Forward (Unit {0})) (backward : Backward) (w : List �
   placed : length (take i w) < boats t
   placed = rw long lt
 
-  pub in-choices : a < choices t (length (take i w))
-  in-choices = rw (long, choices-size t i) la
+  pub in_choices : a < choices t (length (take i w))
+  in_choices = rw (long, choices_size t i) la
 
   abbrev here : State backward
-  here = state backward (setWords w i s)
+  here = state backward (set_words w i s)
 
-  abbrev pub trialOf : List Event
-  trialOf = trial i a ∷ (F.trial tt (take i w) a).checks
+  abbrev pub trial_of : List Event
+  trial_of = trial i a ∷ (F.trial tt (take i w) a).checks
 
   -- a slot that is not live is passed over
-  pub step-dead : F.live tt (take i w) a ≡ false → step t (stepsOver t F backward) (take i w) a here ≡ next [] (take i w) (suc a) here
-  step-dead e = skips t F (take i w) a placed in-choices backward here e
+  pub step_dead : F.live tt (take i w) a ≡ false → step t (steps_over t F backward) (take i w) a here ≡ next [] (take i w) (suc a) here
+  step_dead e = skips t F (take i w) a placed in_choices backward here e
 
   module _ (live : F.live tt (take i w) a ≡ true) where
     -- a trial passes
-    pub step-passes : (τ : Unit {0}) → (F.trial tt (take i w) a).verdict ≡ pass τ →
-        step t (stepsOver t F backward) (take i w) a here ≡ next trialOf (take i w ++ (a ∷ [])) 0 here
-    step-passes τ e = rw long at (passes t F (take i w) a placed in-choices live backward here τ e)
+    pub step_passes : (τ : Unit {0}) → (F.trial tt (take i w) a).verdict ≡ pass τ →
+        step t (steps_over t F backward) (take i w) a here ≡ next trial_of (take i w ++ (a ∷ [])) 0 here
+    step_passes τ e = rw long at (passes t F (take i w) a placed in_choices live backward here τ e)
 
     -- it fails: the boats to blame come into the boat's set
-    pub step-fails : (u : ℕ) (blame : Boats) → (F.trial tt (take i w) a).verdict ≡ fail blame → (backward ≡ BySets → (j : ℕ) → bit u j ≡ (bit s j || blame j)) →
-        step t (stepsOver t F backward) (take i w) a here ≡ next trialOf (take i w) (suc a) (state backward (setWords w i u))
-    step-fails u blame e f =
-        rw (← fell-words backward w i s u blame f) (rw long at (fails t F (take i w) a placed in-choices live backward here blame e))
+    pub step_fails : (u : ℕ) (blame : Boats) → (F.trial tt (take i w) a).verdict ≡ fail blame → (backward ≡ BySets → (j : ℕ) → bit u j ≡ (bit s j || blame j)) →
+        step t (steps_over t F backward) (take i w) a here ≡ next trial_of (take i w) (suc a) (state backward (set_words w i u))
+    step_fails u blame e f =
+        rw (← fell_words backward w i s u blame f) (rw long at (fails t F (take i w) a placed in_choices live backward here blame e))
 
     -- whichever it does, these are its events
-    pub step-tries : (plan : List ℕ) × (choice : ℕ) × (after : State backward) × (step t (stepsOver t F backward) (take i w) a here ≡ next trialOf plan choice after)
-    step-tries = by (F.trial tt (take i w) a).verdict refl
+    pub step_tries : (plan : List ℕ) × (choice : ℕ) × (after : State backward) × (step t (steps_over t F backward) (take i w) a here ≡ next trial_of plan choice after)
+    step_tries = by (F.trial tt (take i w) a).verdict refl
       where
         by : (v : Verdict (Unit {0})) → (F.trial tt (take i w) a).verdict ≡ v →
-            (plan : List ℕ) × (choice : ℕ) × (after : State backward) × (step t (stepsOver t F backward) (take i w) a here ≡ next trialOf plan choice after)
-        by (pass τ) e = (_, _, _, step-passes τ e)
-        by (fail blame) e = (_, _, _, rw long at (fails t F (take i w) a placed in-choices live backward here blame e))
+            (plan : List ℕ) × (choice : ℕ) × (after : State backward) × (step t (steps_over t F backward) (take i w) a here ≡ next trial_of plan choice after)
+        by (pass τ) e = (_, _, _, step_passes τ e)
+        by (fail blame) e = (_, _, _, rw long at (fails t F (take i w) a placed in_choices live backward here blame e))

@@ -6,7 +6,7 @@ use Rattle.visits.specs.declared.Look.{Look}
 use Rattle.visits.specs.declared.Look.TheVariants.{Allowed, Forbidden, OutOfChecks}
 
 -- a check that is counted goes on where the pair allows, and leaves the trial where it does not
-abbrev pub checkedLook : (allows : Bool) → Counted → Look
-checkedLook true (Within k) = Allowed k
-checkedLook false (Within k) = Forbidden k
-checkedLook allows CountedOut = OutOfChecks
+abbrev pub checked_look : (allows : Bool) → Counted → Look
+checked_look true (Within k) = Allowed k
+checked_look false (Within k) = Forbidden k
+checked_look allows CountedOut = OutOfChecks

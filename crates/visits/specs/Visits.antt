@@ -17,7 +17,7 @@ use Rattle.visits.specs.declared.Backward.TheVariants.{OneBack, BySets}
 use Rattle.visits.specs.declared.Visited.{Visited}
 use Rattle.visits.specs.declared.Visited.TheVariants.{Passed, Spent, OutOfChecks, OutOfTrials}
 use Rattle.words.specs.Places.{used}
-use Rattle.words.specs.Sets.{members_of, setWords}
+use Rattle.words.specs.Sets.{members_of, set_words}
 
 -- what a visit of boat i goes by: tables that keep every rule, a boat that is there, the words that a run has, and counts within their allowances
 pub record Standing (t : Tables) (w : List ℕ) (i : ℕ) (m : Counts) : Type 0 where
@@ -31,9 +31,9 @@ abbrev pub State : (backward : Backward) → Type 0
 State OneBack = Unit {0}
 State BySets = Jumping (Unit {0})
 
-abbrev pub stepsOver : (t : Tables) → Forward (Unit {0}) → (backward : Backward) → Steps (State backward)
-stepsOver t F OneBack = stepping F
-stepsOver t F BySets = jumping t F
+abbrev pub steps_over : (t : Tables) → Forward (Unit {0}) → (backward : Backward) → Steps (State backward)
+steps_over t F OneBack = stepping F
+steps_over t F BySets = jumping t F
 
 abbrev pub state : (backward : Backward) → (ℕ → ℕ) → State backward
 state OneBack f = tt
@@ -44,7 +44,7 @@ module _ (t : Tables) {S : Type 0} (M : Steps S) (p : List ℕ) (a : ℕ) (σ : 
   -- the choices before b are given up, by these events; τ is remembered then, and the counts are k
   pub record ComesTo (b : ℕ) (τ : S) (k : Counts) : Type 0 where
     pub events : List Event
-    pub givenUp : GivenUp t M p a σ events b τ
+    pub given_up : GivenUp t M p a σ events b τ
     pub makes : Makes m events k
 
   -- it ends with choice b, which passes: υ is remembered after it
@@ -84,10 +84,10 @@ module _ (t : Tables) (F : Forward (Unit {0})) (backward : Backward) (w : List �
   -- with u as the boat's set, which has boats below i alone
   pub record WithSet (u : ℕ) (K : State backward → Type 0) : Type 0 where
     pub below : u < 2 ^ i
-    pub ends : K (state backward (setWords w i u))
+    pub ends : K (state backward (set_words w i u))
 
   abbrev pub Visits : Visited → Type 0
-  Visits (Passed k u b) = WithSet u (λ τ. Passes t (stepsOver t F backward) (take i w) a (state backward (setWords w i s)) m b τ k)
-  Visits (Spent k u) = WithSet u (λ τ. Spends t (stepsOver t F backward) (take i w) a (state backward (setWords w i s)) m τ k)
-  Visits (OutOfChecks k u b made) = WithSet u (λ τ. RunsOut t (stepsOver t F backward) (take i w) a (state backward (setWords w i s)) m Checks b τ made k)
-  Visits (OutOfTrials k u b) = WithSet u (λ τ. RunsOut t (stepsOver t F backward) (take i w) a (state backward (setWords w i s)) m Trials b τ 0 k)
+  Visits (Passed k u b) = WithSet u (λ τ. Passes t (steps_over t F backward) (take i w) a (state backward (set_words w i s)) m b τ k)
+  Visits (Spent k u) = WithSet u (λ τ. Spends t (steps_over t F backward) (take i w) a (state backward (set_words w i s)) m τ k)
+  Visits (OutOfChecks k u b made) = WithSet u (λ τ. RunsOut t (steps_over t F backward) (take i w) a (state backward (set_words w i s)) m Checks b τ made k)
+  Visits (OutOfTrials k u b) = WithSet u (λ τ. RunsOut t (steps_over t F backward) (take i w) a (state backward (set_words w i s)) m Trials b τ 0 k)

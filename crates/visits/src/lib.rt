@@ -1,8 +1,8 @@
 // A visit of a boat: what every method's forward move is made of, and where it leads.
 ghost use Rattle.std.specs.Prelude.{◌≡◌, ◌<◌};
 ghost use Rattle.problem.specs.Tables.{bit};
-ghost use Rattle.events.specs.Counts.{checkCounted};
-ghost use Rattle.visits.specs.Looks.{checkedLook};
+ghost use Rattle.events.specs.Counts.{check_counted};
+ghost use Rattle.visits.specs.Looks.{checked_look};
 
 use events::{Counted, Counts};
 
@@ -40,7 +40,7 @@ pub enum Look {
 // A check of a slot against the row of a placed boat's slot.
 pub fn check_row(row: u64, slot: u64, counts: Counts) -> Look
     requires { slot < 64 }
-    ensures { result ≡ checkedLook (bit row slot) (checkCounted counts) }
+    ensures { result ≡ checked_look (bit row slot) (check_counted counts) }
 {
     match counts.check() {
         Counted::Out => Look::OutOfChecks,

@@ -3,7 +3,7 @@ use Rattle.std.specs.Prelude.{◌≡◌, List, ℕ, ◌≤◌, ◌<◌, length, 
 use Rattle.problem.specs.Tables.{Tables, boats}
 use Rattle.problem.specs.Sane.{Sane}
 use Rattle.problem.specs.declared.Allowance.{Allowance}
-use Rattle.events.specs.Events.{Event, noPlan}
+use Rattle.events.specs.Events.{Event, no_plan}
 use Rattle.events.specs.declared.Counts.{Counts}
 use Rattle.events.specs.Counts.{Fits, Makes}
 use Rattle.methods.specs.Machine.{stop, step}
@@ -12,7 +12,7 @@ use Rattle.words.specs.Places.{used}
 use Rattle.words.specs.Layout.{ChangedOnly, Placed}
 use Rattle.visits.specs.Visits.{StopsAt}
 use Rattle.moves.specs.declared.Moves.{Moves}
-use Rattle.moves.specs.Memory.{Memory, stepsBy, memory, Kept}
+use Rattle.moves.specs.Memory.{Memory, steps_by, memory, Kept}
 use Rattle.ends.specs.declared.Place.{Place}
 use Rattle.ends.specs.declared.Ended.{Ended}
 use Rattle.ends.specs.declared.Ended.TheVariants.{Solved, NoPlan, Undecided}
@@ -22,7 +22,7 @@ module _ (moves : Moves) (t : Tables) (p : List ℕ) (a : ℕ) (σ : Memory move
   -- whole steps have led to a place, within the allowances, and k are the counts there
   pub record Arrives (plan : List ℕ) (choice : ℕ) (τ : Memory moves) (k : Counts) : Type 0 where
     pub events : List Event
-    pub steps : StepsTo t (stepsBy moves t) p a σ events plan choice τ
+    pub steps : StepsTo t (steps_by moves t) p a σ events plan choice τ
     pub makes : Makes m events k
 
   -- all boats are placed, and the words w hold their slots
@@ -38,7 +38,7 @@ module _ (moves : Moves) (t : Tables) (p : List ℕ) (a : ℕ) (σ : Memory move
     pub choice : ℕ
     pub remembered : Memory moves
     pub arrives : Arrives plan choice remembered k
-    pub stops : step t (stepsBy moves t) plan choice remembered ≡ stop noPlan
+    pub stops : step t (steps_by moves t) plan choice remembered ≡ stop no_plan
 
   -- an allowance ran out at a place: the words hold what is remembered there, and so many events of the step are made
   pub record EndsInside (w : List ℕ) (k : Counts) (which : Allowance) (at : Place) : Type 0 where
@@ -46,7 +46,7 @@ module _ (moves : Moves) (t : Tables) (p : List ℕ) (a : ℕ) (σ : Memory move
     pub kept : Kept moves t w at.boat
     pub reached : Counts
     pub arrives : Arrives (take at.boat w) at.slot (memory moves w at.boat) reached
-    pub stops : StopsAt t (stepsBy moves t) (take at.boat w) at.slot (memory moves w at.boat) reached which at.made k
+    pub stops : StopsAt t (steps_by moves t) (take at.boat w) at.slot (memory moves w at.boat) reached which at.made k
 
   abbrev pub EndsAt : (w : List ℕ) → Ended → Type 0
   EndsAt w (Solved k) = EndsSolved w k

@@ -3,7 +3,7 @@ ghost use Rattle.std.specs.Prelude.{◌≡◌, ◌≤◌, ◌<◌, length};
 ghost use Rattle.problem.specs.Tables.{Tables, tables};
 ghost use Rattle.words.specs.Places.{used};
 ghost use Rattle.ends.specs.declared.Ended.TheVariants.{Undecided};
-ghost use Rattle.storing.specs.Stored.{keptWords};
+ghost use Rattle.storing.specs.Stored.{kept_words};
 ghost use Rattle.walk.specs.Walks.{Setting, Walked};
 
 use ends::{Ended, Place};
@@ -26,7 +26,7 @@ fn stopped(
 ) -> Ended
     requires { (boat < 64) × (used ≤ length work.old) }
     ensures value { result ≡ Undecided counts which (record { boat = boat; slot = slot; made = made }) }
-    ensures work_after { work.new ≡ keptWords moves work.old boat set }
+    ensures work_after { work.new ≡ kept_words moves work.old boat set }
 {
     storing::keep_set(moves, boat, set, work);
     Ended::Undecided(counts, which, Place { boat, slot, made })

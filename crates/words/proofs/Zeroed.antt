@@ -9,36 +9,36 @@ use lib.ListN.{length, set, drop, replicate, length-replicate, get_or-replicate,
 use lib.Seq.{drop-append_seam, get_or-drop}
 use Rattle.words.specs.Layout.{word, zeroed, ChangedOnly}
 
-pub zeroed-none : (w : List ℕ) → w ≡ zeroed 0 w
+pub zeroed_none : (w : List ℕ) → w ≡ zeroed 0 w
 unfolding zeroed
-zeroed-none w = fill_none w 0
+zeroed_none w = fill_none w 0
 
-pub zeroed-more : (n : ℕ) (w : List ℕ) → n < length w → set (zeroed n w) n 0 ≡ zeroed (n + 1) w
+pub zeroed_more : (n : ℕ) (w : List ℕ) → n < length w → set (zeroed n w) n 0 ≡ zeroed (n + 1) w
 unfolding zeroed
-zeroed-more n w l = fill_more n 0 w l
+zeroed_more n w l = fill_more n 0 w l
 
-pub zeroed-at : (n k : ℕ) (w : List ℕ) → k < n → word (zeroed n w) k ≡ 0
+pub zeroed_at : (n k : ℕ) (w : List ℕ) → k < n → word (zeroed n w) k ≡ 0
 unfolding zeroed
-zeroed-at n k w l = get_or-append (replicate n 0) (drop n w) 0 k (omega (arith, length-replicate {A = ℕ} n 0)) ∙ get_or-replicate n k 0 0 l
+zeroed_at n k w l = get_or-append (replicate n 0) (drop n w) 0 k (omega (arith, length-replicate {A = ℕ} n 0)) ∙ get_or-replicate n k 0 0 l
 
-pub zeroed-long : (n : ℕ) (w : List ℕ) → n ≤ length w → length (zeroed n w) ≡ length w
+pub zeroed_long : (n : ℕ) (w : List ℕ) → n ≤ length w → length (zeroed n w) ≡ length w
 unfolding zeroed
-zeroed-long n w l = length-append (replicate n 0) (drop n w) ∙ omega (arith, length-replicate {A = ℕ} n 0, length-drop n w)
+zeroed_long n w l = length-append (replicate n 0) (drop n w) ∙ omega (arith, length-replicate {A = ℕ} n 0, length-drop n w)
 
-pub zeroed-later : (n : ℕ) (w : List ℕ) → drop n (zeroed n w) ≡ drop n w
+pub zeroed_later : (n : ℕ) (w : List ℕ) → drop n (zeroed n w) ≡ drop n w
 unfolding zeroed
-zeroed-later n w = ap (λ (k : ℕ). drop k (replicate n 0 ++ drop n w)) (sym (length-replicate n 0)) ∙ drop-append_seam (replicate n 0) (drop n w)
+zeroed_later n w = ap (λ (k : ℕ). drop k (replicate n 0 ++ drop n w)) (sym (length-replicate n 0)) ∙ drop-append_seam (replicate n 0) (drop n w)
 
 -- only the later words matter
-pub zeroed-same : (n : ℕ) (v w : List ℕ) → drop n v ≡ drop n w → zeroed n v ≡ zeroed n w
+pub zeroed_same : (n : ℕ) (v w : List ℕ) → drop n v ≡ drop n w → zeroed n v ≡ zeroed n w
 unfolding zeroed
-zeroed-same n v w e = ap (λ (l : List ℕ). replicate n 0 ++ l) e
+zeroed_same n v w e = ap (λ (l : List ℕ). replicate n 0 ++ l) e
 
 -- and no others have changed
-pub zeroed-only : (n : ℕ) (w : List ℕ) → n ≤ length w → ChangedOnly 0 n w (zeroed n w)
-zeroed-only n w l = record { long = zeroed-long n w l; others = λ k h. ⊎_elim (λ none. absurd (omega arith)) (λ hi. later k hi) h }
+pub zeroed_only : (n : ℕ) (w : List ℕ) → n ≤ length w → ChangedOnly 0 n w (zeroed n w)
+zeroed_only n w l = record { long = zeroed_long n w l; others = λ k h. ⊎_elim (λ none. absurd (omega arith)) (λ hi. later k hi) h }
   where
     later : (k : ℕ) → n ≤ k → word (zeroed n w) k ≡ word w k
     later k hi =
         let z : n + (k - n) ≡ k = omega arith in
-        rw z at (sym (get_or-drop n (zeroed n w) (k - n) 0) ∙ ap (λ (v : List ℕ). word v (k - n)) (zeroed-later n w) ∙ get_or-drop n w (k - n) 0)
+        rw z at (sym (get_or-drop n (zeroed n w) (k - n) 0) ∙ ap (λ (v : List ℕ). word v (k - n)) (zeroed_later n w) ∙ get_or-drop n w (k - n) 0)

@@ -33,8 +33,8 @@ abbrev pub members_of : (ℕ → ℕ) → Sets
 members_of f = λ k j. bit (f k) j
 
 -- boat i has the set s, the boats below it have theirs in their words, and those above it have none
-abbrev pub setWords : List ℕ → (i s : ℕ) → ℕ → ℕ
-setWords w i s = λ k. cond (eqb k i) s (cond (ltb k i) (word w (set_at k)) 0)
+abbrev pub set_words : List ℕ → (i s : ℕ) → ℕ → ℕ
+set_words w i s = λ k. cond (eqb k i) s (cond (ltb k i) (word w (set_at k)) 0)
 
 -- the set of each boat up to i has only boats below that boat
 abbrev pub SetsBelow : List ℕ → ℕ → Type 0

@@ -7,9 +7,9 @@ use native.Mathlib.Numerals.{add-one}
 use Rattle.files.specs.Bytes.{bytes_of, joined}
 
 -- ---- the bytes of a word
-pub bytes-more : (k w : ℕ) → bytes_of k w ++ (w / 256 ^ k % 256 ∷ []) ≡ bytes_of (k + 1) w
+pub bytes_more : (k w : ℕ) → bytes_of k w ++ (w / 256 ^ k % 256 ∷ []) ≡ bytes_of (k + 1) w
 unfolding bytes_of
-bytes-more k w = by k w ∙ ap (λ n. bytes_of n w) (sym (add-one k))
+bytes_more k w = by k w ∙ ap (λ n. bytes_of n w) (sym (add-one k))
   where
     by : (k w : ℕ) → bytes_of k w ++ (w / 256 ^ k % 256 ∷ []) ≡ bytes_of (suc k) w
     by zero w = ap (λ n. n % 256 ∷ []) (div-one w)
@@ -21,6 +21,6 @@ pub bytes_left : (k w : ℕ) → w / 256 ^ k / 256 ≡ w / 256 ^ (k + 1)
 bytes_left k w = div-div-eq-div-mul w (256 ^ k) 256 ∙ ap (λ n. w / n) (sym (pow-suc 256 k) ∙ ap (λ n. 256 ^ n) (sym (add-one k)))
 
 -- ---- joined parts
-pub joined-more : (k : ℕ) (f : ℕ → List ℕ) → joined k f ++ f k ≡ joined (k + 1) f
+pub joined_more : (k : ℕ) (f : ℕ → List ℕ) → joined k f ++ f k ≡ joined (k + 1) f
 unfolding joined
-joined-more k f = ap (λ n. joined n f) (sym (add-one k))
+joined_more k f = ap (λ n. joined n f) (sym (add-one k))

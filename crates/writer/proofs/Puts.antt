@@ -10,13 +10,13 @@ use Rattle.files.specs.Rooms.{covering}
 use Rattle.writer.specs.Puts.{Puts}
 
 -- entries stored one after another
-pub puts-stored : (content : List ℕ) {at : ℕ} {room : List ℕ} → at + length content ≤ length room → Puts content at room (sets room at content)
-puts-stored content {at} {room} l = record { inside = l; there = sets-eq content room at l ∙ append_assoc (take at room) content (drop (at + length content) room) }
+pub puts_stored : (content : List ℕ) {at : ℕ} {room : List ℕ} → at + length content ≤ length room → Puts content at room (sets room at content)
+puts_stored content {at} {room} l = record { inside = l; there = sets-eq content room at l ∙ append_assoc (take at room) content (drop (at + length content) room) }
 
 -- a content that was put
 module _ {content : List ℕ} {at : ℕ} {before after : List ℕ} (p : Puts content at before after) where
-  pub puts-length : length after ≡ length before
-  puts-length =
+  pub puts_length : length after ≡ length before
+  puts_length =
       ap length p.there
       ∙ omega (
         arith,
@@ -47,7 +47,7 @@ module _ {content : List ℕ} {at : ℕ} {before after : List ℕ} (p : Puts con
     puts_then =
         subst (λ xs. Puts xs at before last) both
         record {
-          inside = omega (arith, q.inside, puts-length, length-append content more);
+          inside = omega (arith, q.inside, puts_length, length-append content more);
           there =
               q.there
               ∙ ap₂ (λ xs ys. xs ++ (more ++ ys)) (ap (take next) split ∙ take_at (take at before ++ content) (drop next before) next front) behind

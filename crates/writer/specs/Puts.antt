@@ -1,8 +1,8 @@
 -- What the writer's parts put into lent memory.
 use Rattle.std.specs.Prelude.{◌≡◌, List, ◌++◌, ℕ, ◌+◌, ◌≤◌, length, take, drop}
 use Rattle.problem.specs.Tables.{Tables}
-use Rattle.files.specs.Writer.{writeAnswer, writtenRoom}
-use Rattle.writer.specs.Replies.{writtenTold}
+use Rattle.files.specs.Writer.{write_answer, written_room}
+use Rattle.writer.specs.Replies.{written_told}
 use Rattle.writer.specs.declared.Written.{Written}
 
 -- a content stands at a place inside the memory, and all else is as it was
@@ -12,4 +12,4 @@ pub record Puts (content : List ℕ) (at : ℕ) (before after : List ℕ) : Type
 
 -- what the writer leaves
 abbrev pub Writes : Tables → (before : List ℕ) → Written → (after : List ℕ) → Type 0
-Writes t before r after = (writtenTold r ≡ writeAnswer t before) × (after ≡ writtenRoom t before)
+Writes t before r after = (written_told r ≡ write_answer t before) × (after ≡ written_room t before)

@@ -3,10 +3,10 @@ ghost use Rattle.std.specs.Prelude.{◌≡◌, [], ◌∷◌, ◌+◌, ◌*◌, 
 ghost use Rattle.problem.specs.Tables.{Tables, tables, listed};
 ghost use Rattle.problem.specs.Sane.{Sane};
 ghost use Rattle.files.specs.Bytes.{bytes_of, joined};
-ghost use Rattle.files.specs.File.{pairRecord};
-ghost use Rattle.files.specs.Writer.{writeAnswer, writtenRoom};
+ghost use Rattle.files.specs.File.{pair_record};
+ghost use Rattle.files.specs.Writer.{write_answer, written_room};
 ghost use Rattle.writer.specs.Puts.{Puts, Writes};
-ghost use Rattle.writer.specs.Replies.{writtenTold};
+ghost use Rattle.writer.specs.Replies.{written_told};
 
 use problem::Refusal;
 use tables::Examined;
@@ -82,7 +82,7 @@ fn put_pairs(sizes: &[u8], pairs: &[u8], rows: &[u64], file: &mut [u8], first: u
     requires rows_value { tables sizes.now pairs.now rows.now ≡ t }
     requires sane { Sane t }
     requires rows_in_bounds { first + (4 * listed t.pairs + 8 * length t.rows) ≤ length file.old }
-    ensures { Puts (joined (listed t.pairs) (pairRecord t)) first file.old file.new }
+    ensures { Puts (joined (listed t.pairs) (pair_record t)) first file.old file.new }
 {
     let count = pairs.len() / 2;
     let mut at = first;
@@ -121,8 +121,8 @@ fn write_fine(sizes: &[u8], pairs: &[u8], rows: &[u64], file: &mut [u8]) -> Writ
 
 // Writes the file of the tables into lent memory.
 pub fn write(sizes: &[u8], pairs: &[u8], rows: &[u64], file: &mut [u8]) -> Written
-    ensures result_value { writtenTold result ≡ writeAnswer (tables sizes.now pairs.now rows.now) file.old }
-    ensures file_after { file.new ≡ writtenRoom (tables sizes.now pairs.now rows.now) file.old }
+    ensures result_value { written_told result ≡ write_answer (tables sizes.now pairs.now rows.now) file.old }
+    ensures file_after { file.new ≡ written_room (tables sizes.now pairs.now rows.now) file.old }
 {
     match tables::examine(sizes, pairs, rows) {
         Examined::Refused(why) => Written::Refused(why),

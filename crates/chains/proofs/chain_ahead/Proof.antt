@@ -5,8 +5,8 @@ use native.Mathlib.Omega.{arith}
 use lib.ListN.{length, length-set}
 use Rattle.problem.specs.Tables.{tables, listed}
 use Rattle.words.specs.Layout.{ChangedOnly}
-use Rattle.words.proofs.ChangedOnly.{only-trans}
-use Rattle.chains.proofs.Chain.{ChainBegun, ChainTo, begun-none, begun_more, chain-none, chain_more, chain-all}
+use Rattle.words.proofs.ChangedOnly.{only_trans}
+use Rattle.chains.proofs.Chain.{ChainBegun, ChainTo, begun_none, begun_more, chain_none, chain_more, chain_all}
 use Rattle.chains.proofs.chain_ahead.Statement.{statement}
 use Rattle.chains.proofs.chain_ahead.Tie as tie
 
@@ -31,10 +31,10 @@ head l = l.before.before
 
 -- both loops together
 whole : (l : tie.At-loop2 invariant-loop decreases-loop invariant-loop2 decreases-loop2) → ChangedOnly 448 4096 (entry (head l)).args.work.now l.loop2.work
-whole l = only-trans (head l).loop.invariant.only l.loop2.invariant.only
+whole l = only_trans (head l).loop.invariant.only l.loop2.invariant.only
 
 loop-holds : tie.Need-loop-init invariant-loop decreases-loop invariant-loop2 decreases-loop2
-loop-holds c = begun-none _ _
+loop-holds c = begun_none _ _
 
 add-work : tie.Need-overflow-add-work invariant-loop decreases-loop invariant-loop2 decreases-loop2
 add-work c = search rules
@@ -57,10 +57,10 @@ loop-less c = search rules
 loop-again : tie.Need-loop-preserved invariant-loop decreases-loop invariant-loop2 decreases-loop2
 loop-again c =
     let p = (entry c.before).pre in
-    begun_more p.0.fewBoats p.1 c.before.loop.invariant c.loop-test.true
+    begun_more p.0.few_boats p.1 c.before.loop.invariant c.loop-test.true
 
 loop2-holds : tie.Need-loop2-init invariant-loop decreases-loop invariant-loop2 decreases-loop2
-loop2-holds c = chain-none c.before.loop.invariant c.loop-test.false
+loop2-holds c = chain_none c.before.loop.invariant c.loop-test.false
 
 higher-of-requires : tie.Need-higher-of-requires invariant-loop decreases-loop invariant-loop2 decreases-loop2
 higher-of-requires c κs = search rules
@@ -108,7 +108,7 @@ same_length : tie.Need-same-length invariant-loop decreases-loop invariant-loop2
 same_length c = (whole c.before).long
 
 returns : tie.Need-returns invariant-loop decreases-loop invariant-loop2 decreases-loop2
-returns c = (chain-all (entry (head c.before)).pre.0 c.before.loop2.invariant c.loop2-test.false, whole c.before)
+returns c = (chain_all (entry (head c.before)).pre.0 c.before.loop2.invariant c.loop2-test.false, whole c.before)
 
 pub chain-ahead-spec : {M : Type 1} → statement M
 chain-ahead-spec =

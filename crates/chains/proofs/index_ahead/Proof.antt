@@ -4,7 +4,7 @@ use borrow.Author.Rules.{rules}
 use native.Mathlib.Omega.{arith}
 use lib.ListN.{length, length-set}
 use Rattle.problem.specs.Tables.{tables}
-use Rattle.chains.proofs.Ahead.{AheadTo, ahead_none, ahead-few, ahead_more, ahead-all}
+use Rattle.chains.proofs.Ahead.{AheadTo, ahead_none, ahead_few, ahead_more, ahead_all}
 use Rattle.chains.proofs.index_ahead.Statement.{statement}
 use Rattle.chains.proofs.index_ahead.Tie as tie
 
@@ -56,7 +56,7 @@ few : (c : tie.After-size-of invariant-loop decreases-loop)
     → (head c).loop.start + (c.before.pairs-end.result - (head c).loop.k) * c.type_size.result ≤ 129024
 few c =
     let p = (entry (head c)).pre in
-    ahead-few p.0 p.1 (head c).loop.invariant c.before.pairs-end.ensures c.type_size.ensures.0
+    ahead_few p.0 p.1 (head c).loop.invariant c.before.pairs-end.ensures c.type_size.ensures.0
 
 mul-start : tie.Need-overflow-mul-start invariant-loop decreases-loop
 mul-start c = omega (arith, few c)
@@ -90,7 +90,7 @@ same_length c = simp length-set c.before.loop.invariant.only.long
 returns : tie.Need-returns invariant-loop decreases-loop
 returns c =
     let p = (entry c.before).pre in
-    ahead-all p.0 p.1 c.before.loop.invariant c.loop-test.false
+    ahead_all p.0 p.1 c.before.loop.invariant c.loop-test.false
 
 pub index-ahead-spec : {M : Type 1} → statement M
 index-ahead-spec =

@@ -1,6 +1,6 @@
 use mathlib.Core.Path.{sym, ap, ◌∙◌}
 use borrow.Author.Rules.{rules}
-use Rattle.ends.specs.Replies.{replyOf}
+use Rattle.ends.specs.Replies.{reply_at_end}
 use Rattle.ends.proofs.reply_of.Statement.{statement}
 use Rattle.ends.proofs.reply_of.Tie as tie
 
@@ -23,13 +23,13 @@ reply-requires-3 : tie.Need-reply-requires-3
 reply-requires-3 c κs = search rules
 
 returns : tie.Need-returns
-returns c = c.reply.ensures ∙ sym (ap replyOf c.before.before.ended.given.1)
+returns c = c.reply.ensures ∙ sym (ap reply_at_end c.before.before.ended.given.1)
 
-returns-2 : tie.Need-returns-2
-returns-2 c = c.reply2.ensures ∙ sym (ap replyOf c.before.before.ended2.given.1)
+returns_2 : tie.Need-returns-2
+returns_2 c = c.reply2.ensures ∙ sym (ap reply_at_end c.before.before.ended2.given.1)
 
 returns-3 : tie.Need-returns-3
-returns-3 c = c.reply3.ensures ∙ sym (ap replyOf c.before.before.ended3.given.1)
+returns-3 c = c.reply3.ensures ∙ sym (ap reply_at_end c.before.before.ended3.given.1)
 
 pub reply-of-spec : {M : Type 1} → statement M
 reply-of-spec =
@@ -42,5 +42,5 @@ reply-of-spec =
     enum-known-ended-3
     reply-requires-3
     returns
-    returns-2
+    returns_2
     returns-3)

@@ -5,7 +5,7 @@ use borrow.Author.Rules.{rules}
 use lib.ListN.{length, take, drop}
 use lib.Seq.{length-take-le}
 use Rattle.ends.specs.declared.Ended.{Ended}
-use Rattle.ends.specs.Ends.{decisionThen}
+use Rattle.ends.specs.Ends.{decision_then}
 use Rattle.runs.specs.Runs.{written}
 use Rattle.ends.proofs.write_plan.Statement.{statement}
 use Rattle.ends.proofs.write_plan.Tie as tie
@@ -33,11 +33,11 @@ returns c =
     let p = take s.args.n s.args.work.now in
     c.before.before.copy-plan.ensures
     ∙ ap (λ (k : ℕ). p ++ drop k s.args.plan.now) (sym (length-take-le s.args.n s.args.work.now s.requires.0.0))
-    ∙ ap (λ (r : Ended). written (decisionThen r p) ++ drop (length (written (decisionThen r p))) s.args.plan.now)
+    ∙ ap (λ (r : Ended). written (decision_then r p) ++ drop (length (written (decision_then r p))) s.args.plan.now)
     (sym c.before.before.before.before.enum_told.given.1)
 
-returns-2 : tie.Need-returns-2
-returns-2 c = search rules
+returns_2 : tie.Need-returns-2
+returns_2 c = search rules
 
 returns-3 : tie.Need-returns-3
 returns-3 c = search rules
@@ -52,5 +52,5 @@ write-plan-spec =
     enum-told-3
     same_length
     returns
-    returns-2
+    returns_2
     returns-3)

@@ -1,6 +1,6 @@
 use mathlib.Core.Path.{sym, ap, ◌∙◌}
 use borrow.Author.Rules.{rules}
-use Rattle.questions.specs.Replies.{brokenTold}
+use Rattle.questions.specs.Replies.{broken_told}
 use Rattle.questions.specs.declared.Broken.{Broken}
 use Rattle.handing.specs.Handed.{handed}
 use Rattle.handing.proofs.broken.Statement.{statement}
@@ -25,13 +25,13 @@ refused-requires : tie.Need-refused-requires
 refused-requires c κs = search rules
 
 returns : tie.Need-returns
-returns c = c.numbered.ensures ∙ ap (λ (b : Broken). handed (brokenTold b) 0 0) (sym c.before.enum_told.given.1)
+returns c = c.numbered.ensures ∙ ap (λ (b : Broken). handed (broken_told b) 0 0) (sym c.before.enum_told.given.1)
 
-returns-2 : tie.Need-returns-2
-returns-2 c = c.numbered2.ensures ∙ ap (λ (b : Broken). handed (brokenTold b) 0 0) (sym c.before.before.found.given.1)
+returns_2 : tie.Need-returns-2
+returns_2 c = c.numbered2.ensures ∙ ap (λ (b : Broken). handed (broken_told b) 0 0) (sym c.before.before.found.given.1)
 
 returns-3 : tie.Need-returns-3
-returns-3 c = c.refused.ensures ∙ ap (λ (b : Broken). handed (brokenTold b) 0 0) (sym c.before.before.found2.given.1)
+returns-3 c = c.refused.ensures ∙ ap (λ (b : Broken). handed (broken_told b) 0 0) (sym c.before.before.found2.given.1)
 
 pub broken-spec : {M : Type 1} → statement M
 broken-spec =
@@ -44,5 +44,5 @@ broken-spec =
     enum-known-found-2
     refused-requires
     returns
-    returns-2
+    returns_2
     returns-3)

@@ -6,8 +6,8 @@ use Rattle.handing.specs.declared.HarbourReadReply.{HarbourReadReply}
 use Rattle.handing.proofs.file_read.Statement.{statement}
 use Rattle.handing.proofs.file_read.Tie as tie
 
-abbrev with_lengths : HarbourReply → (boats pairBytes rowWords : ℕ) → HarbourReadReply
-with_lengths h boats pairBytes rowWords = record { answer = h.answer; place = h.place; boats = boats; pair_bytes = pairBytes; row_words = rowWords }
+abbrev with_lengths : HarbourReply → (boats pair_bytes row_words : ℕ) → HarbourReadReply
+with_lengths h boats pair_bytes row_words = record { answer = h.answer; place = h.place; boats = boats; pair_bytes = pair_bytes; row_words = row_words }
 
 examined-requires : tie.Need-examined-requires
 examined-requires c κs = search rules

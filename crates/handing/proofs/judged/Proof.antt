@@ -1,6 +1,6 @@
 use mathlib.Core.Path.{sym, ap, ◌∙◌}
 use borrow.Author.Rules.{rules}
-use Rattle.questions.specs.Replies.{judgedTold}
+use Rattle.questions.specs.Replies.{judged_told}
 use Rattle.questions.specs.declared.Judged.{Judged}
 use Rattle.handing.specs.Handed.{handed}
 use Rattle.handing.proofs.judged.Statement.{statement}
@@ -25,13 +25,13 @@ refused-requires : tie.Need-refused-requires
 refused-requires c κs = search rules
 
 returns : tie.Need-returns
-returns c = c.numbered.ensures ∙ ap (λ (j : Judged). handed (judgedTold j) 0 0) (sym c.before.enum_told.given.1)
+returns c = c.numbered.ensures ∙ ap (λ (j : Judged). handed (judged_told j) 0 0) (sym c.before.enum_told.given.1)
 
-returns-2 : tie.Need-returns-2
-returns-2 c = c.numbered2.ensures ∙ ap (λ (j : Judged). handed (judgedTold j) 0 0) (sym c.before.enum-told2.given.1)
+returns_2 : tie.Need-returns-2
+returns_2 c = c.numbered2.ensures ∙ ap (λ (j : Judged). handed (judged_told j) 0 0) (sym c.before.enum-told2.given.1)
 
 returns-3 : tie.Need-returns-3
-returns-3 c = c.refused.ensures ∙ ap (λ (j : Judged). handed (judgedTold j) 0 0) (sym c.before.before.found.given.1)
+returns-3 c = c.refused.ensures ∙ ap (λ (j : Judged). handed (judged_told j) 0 0) (sym c.before.before.found.given.1)
 
 pub judged-spec : {M : Type 1} → statement M
 judged-spec =
@@ -44,5 +44,5 @@ judged-spec =
     enum-known-found
     refused-requires
     returns
-    returns-2
+    returns_2
     returns-3)

@@ -1,6 +1,6 @@
 use borrow.Author.Rules.{rules}
 use native.Mathlib.Omega.{arith}
-use Rattle.handing.proofs.Numbers.{number_small, refusal-handed}
+use Rattle.handing.proofs.Numbers.{number_small, refusal_handed}
 use Rattle.handing.proofs.refused.Statement.{statement}
 use Rattle.handing.proofs.refused.Tie as tie
 
@@ -14,7 +14,7 @@ numbered-requires : tie.Need-numbered-requires
 numbered-requires c κs = search rules
 
 returns : tie.Need-returns
-returns c = refusal-handed c.before.before.before.args.why _ _ _ _ _ c.before.before.number_of_lem.ensures.0 c.before.before.number_of_lem.ensures.1 c.numbered.ensures
+returns c = refusal_handed c.before.before.before.args.why _ _ _ _ _ c.before.before.number_of_lem.ensures.0 c.before.before.number_of_lem.ensures.1 c.numbered.ensures
 
 pub refused-spec : {M : Type 1} → statement M
 refused-spec = tie.close (tie.spec number-of-requires add-numbered numbered-requires returns)

@@ -1,6 +1,6 @@
 use mathlib.Core.Path.{◌≡◌, sym, ap, ◌∙◌}
 use borrow.Author.Rules.{rules}
-use Rattle.problem.specs.Replies.{answerTold}
+use Rattle.problem.specs.Replies.{answer_told}
 use Rattle.problem.specs.declared.Answer.{Answer}
 use Rattle.problem.specs.declared.Reply.{Reply}
 use Rattle.handing.specs.declared.HarbourReply.{HarbourReply}
@@ -9,8 +9,8 @@ use Rattle.handing.proofs.replied.Statement.{statement}
 use Rattle.handing.proofs.replied.Tie as tie
 
 -- what is handed over for an answer that is known
-known : (r : Reply) (x : HarbourReply) (a : Answer) → r.answer ≡ a → x ≡ handed (answerTold a) r.checks r.trials → x ≡ handed (answerTold r.answer) r.checks r.trials
-known r x a e f = f ∙ ap (λ (b : Answer). handed (answerTold b) r.checks r.trials) (sym e)
+known : (r : Reply) (x : HarbourReply) (a : Answer) → r.answer ≡ a → x ≡ handed (answer_told a) r.checks r.trials → x ≡ handed (answer_told r.answer) r.checks r.trials
+known r x a e f = f ∙ ap (λ (b : Answer). handed (answer_told b) r.checks r.trials) (sym e)
 
 enum_told : tie.Need-enum-told
 enum_told c = search rules
@@ -39,8 +39,8 @@ refused-requires c κs = search rules
 returns : tie.Need-returns
 returns c = known c.before.before.before.args.reply _ _ c.before.enum_told.given.1 c.numbered.ensures
 
-returns-2 : tie.Need-returns-2
-returns-2 c = known c.before.before.before.args.reply _ _ c.before.enum-told2.given.1 c.numbered2.ensures
+returns_2 : tie.Need-returns-2
+returns_2 c = known c.before.before.before.args.reply _ _ c.before.enum-told2.given.1 c.numbered2.ensures
 
 returns-3 : tie.Need-returns-3
 returns-3 c = known c.before.before.before.before.args.reply _ _ c.before.before.answer.given.1 c.undecided.ensures
@@ -61,6 +61,6 @@ replied-spec =
     enum-known-answer-2
     refused-requires
     returns
-    returns-2
+    returns_2
     returns-3
     returns-4)

@@ -1,6 +1,6 @@
 use mathlib.Core.Path.{sym, ap, ◌∙◌}
 use borrow.Author.Rules.{rules}
-use Rattle.problem.specs.Replies.{answerTold}
+use Rattle.problem.specs.Replies.{answer_told}
 use Rattle.problem.specs.declared.Allowance.{Allowance}
 use Rattle.problem.specs.declared.Answer.TheVariants.{Undecided}
 use Rattle.handing.specs.Handed.{handed}
@@ -20,10 +20,10 @@ numbered-requires-2 : tie.Need-numbered-requires-2
 numbered-requires-2 c κs = search rules
 
 returns : tie.Need-returns
-returns c = c.numbered.ensures ∙ ap (λ (b : Allowance). handed (answerTold (Undecided b)) c.before.before.before.args.checks c.before.before.before.args.trials) (sym c.before.enum_told.given.1)
+returns c = c.numbered.ensures ∙ ap (λ (b : Allowance). handed (answer_told (Undecided b)) c.before.before.before.args.checks c.before.before.before.args.trials) (sym c.before.enum_told.given.1)
 
-returns-2 : tie.Need-returns-2
-returns-2 c = c.numbered2.ensures ∙ ap (λ (b : Allowance). handed (answerTold (Undecided b)) c.before.before.before.args.checks c.before.before.before.args.trials) (sym c.before.enum-told2.given.1)
+returns_2 : tie.Need-returns-2
+returns_2 c = c.numbered2.ensures ∙ ap (λ (b : Allowance). handed (answer_told (Undecided b)) c.before.before.before.args.checks c.before.before.before.args.trials) (sym c.before.enum-told2.given.1)
 
 pub undecided-spec : {M : Type 1} → statement M
-undecided-spec = tie.close (tie.spec enum_told numbered-requires enum-told-2 numbered-requires-2 returns returns-2)
+undecided-spec = tie.close (tie.spec enum_told numbered-requires enum-told-2 numbered-requires-2 returns returns_2)

@@ -1,7 +1,7 @@
 use mathlib.Core.Path.{ap, ◌∙◌}
 use borrow.Author.Rules.{rules}
 use Rattle.files.specs.Reader.{Result}
-use Rattle.harbour.specs.Handed.{handedFile}
+use Rattle.harbour.specs.Handed.{handed_file}
 use Rattle.harbour.proofs.harbour_read.Statement.{statement}
 use Rattle.harbour.proofs.harbour_read.Tie as tie
 
@@ -23,7 +23,7 @@ same-length-3 c = search rules
 returns : tie.Need-returns
 returns c =
     let read = c.before.before.before.before.before.before.before.read.ensures in
-    (c.file-read.ensures ∙ ap handedFile read, ap (λ (r : Result). r.rooms) read)
+    (c.file-read.ensures ∙ ap handed_file read, ap (λ (r : Result). r.rooms) read)
 
 pub harbour-read-spec : {M : Type 1} → statement M
 harbour-read-spec =

@@ -1,7 +1,7 @@
 use mathlib.Core.Path.{ap, ◌∙◌}
 use borrow.Author.Rules.{rules}
 use Rattle.problem.specs.Replies.{Told}
-use Rattle.handing.specs.Handed.{handedWritten}
+use Rattle.handing.specs.Handed.{handed_written}
 use Rattle.harbour.proofs.harbour_write.Statement.{statement}
 use Rattle.harbour.proofs.harbour_write.Tie as tie
 
@@ -17,7 +17,7 @@ same_length c = search rules
 returns : tie.Need-returns
 returns c =
     let write = c.before.before.before.write.ensures in
-    (c.written.ensures ∙ ap (λ (w : Told). handedWritten w) write.0, write.1)
+    (c.written.ensures ∙ ap (λ (w : Told). handed_written w) write.0, write.1)
 
 pub harbour-write-spec : {M : Type 1} → statement M
 harbour-write-spec = tie.close (tie.spec write-requires written-requires same_length returns)

@@ -4,9 +4,9 @@ use Prim.Native.Nat.{◌+◌, ◌-◌, ◌<◌}
 use borrow.Author.Rules.{rules}
 use native.Mathlib.Omega.{arith}
 use Rattle.problem.specs.Tables.{tables, size, listed}
-use Rattle.problem.proofs.Places.{lower-named}
+use Rattle.problem.proofs.Places.{lower_named_lem}
 use Rattle.words.specs.Places.{tri}
-use Rattle.index.proofs.Back.{indexPlace, BackTo, indexPlace-lt, back_none, back-few, back_more, back-all}
+use Rattle.index.proofs.Back.{index_place, BackTo, index_place_lt, back_none, back_few, back_more, back_all}
 use Rattle.index.proofs.index_back.Statement.{statement}
 use Rattle.index.proofs.index_back.Tie as tie
 
@@ -38,22 +38,22 @@ higher-of-requires c κs = search rules
 row-at-requires : tie.Need-row-at-requires invariant-loop decreases-loop
 row-at-requires c κs =
     let l = c.before.before.before in
-    omega (arith, (S l).requires.0.boatsNamed l.loop.k c.before.before.loop-test.true)
+    omega (arith, (S l).requires.0.boats_named l.loop.k c.before.before.loop-test.true)
 
 -- the code finds where the word of pair k is
 found : (c : tie.After-row-at invariant-loop decreases-loop)
     → let a = (S (head c)).args in
     let at = c.row_at.result + c.before.before.lower_of.result in
-    (at ≡ indexPlace (tables a.sizes.now a.pairs.now a.rows.now) (head c).loop.k) × (at < 4096)
+    (at ≡ index_place (tables a.sizes.now a.pairs.now a.rows.now) (head c).loop.k) × (at < 4096)
 found c =
-    let l = indexPlace-lt (S (head c)).pre.0 (head c).loop.k c.before.before.before.loop-test.true in
+    let l = index_place_lt (S (head c)).pre.0 (head c).loop.k c.before.before.before.loop-test.true in
     omega (arith, ap tri c.before.higher-of.ensures.0)
 
 add_at : tie.Need-overflow-add-at invariant-loop decreases-loop
 add_at c = omega (arith, (found c).1)
 
 add-work : tie.Need-overflow-add-work invariant-loop decreases-loop
-add-work c = omega (arith, back-few (S (head c)).pre.0 (head c).loop.invariant)
+add-work c = omega (arith, back_few (S (head c)).pre.0 (head c).loop.invariant)
 
 mul-work : tie.Need-overflow-mul-work invariant-loop decreases-loop
 mul-work c = omega (arith, (found c).1)
@@ -66,10 +66,10 @@ size-of-requires c κs =
     let s = (S (head c)).pre.0 in
     let k = (head c).loop.k in
     let l = c.before.before.before.loop-test.true in
-    omega (arith, lower-named _ s k l)
+    omega (arith, lower_named_lem _ s k l)
 
 add_start : tie.Need-overflow-add-start invariant-loop decreases-loop
-add_start c = let l = head c.before in omega (arith, back-few (S l).pre.0 l.loop.inv)
+add_start c = let l = head c.before in omega (arith, back_few (S l).pre.0 l.loop.inv)
 
 add-k : tie.Need-overflow-add-k invariant-loop decreases-loop
 add-k c = search rules
@@ -90,7 +90,7 @@ same_length c = c.before.loop.invariant.only.long
 returns : tie.Need-returns invariant-loop decreases-loop
 returns c =
     let b = c.before.loop.invariant in
-    (back-all (S c.before).pre.0 b c.loop-test.false, b.only)
+    (back_all (S c.before).pre.0 b c.loop-test.false, b.only)
 
 pub index-back-spec : {M : Type 1} → statement M
 index-back-spec =

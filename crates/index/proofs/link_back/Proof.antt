@@ -5,8 +5,8 @@ use borrow.Author.Rules.{rules}
 use native.Mathlib.Omega.{arith}
 use lib.ListN.{length, length-set}
 use Rattle.problem.specs.Tables.{tables}
-use Rattle.words.proofs.ChangedOnly.{only-trans, only_set, only-widen}
-use Rattle.index.proofs.Linked.{LinkedTo, linked-none, linked-at, linked-more, linked-all}
+use Rattle.words.proofs.ChangedOnly.{only_trans, only_set, only_widen}
+use Rattle.index.proofs.Linked.{LinkedTo, linked_none, linked_at, linked_more, linked_all}
 use Rattle.index.proofs.link_back.Statement.{statement}
 use Rattle.index.proofs.link_back.Tie as tie
 
@@ -35,7 +35,7 @@ slice-write-work c = omega (arith, c.before.before.index_back.ensures.1.long)
 loop-holds : tie.Need-loop-init invariant-loop decreases-loop
 loop-holds c =
     let b = c.before.before.index_back in
-    linked-none b.new.1.1.1.0 (omega (arith, b.ensures.1.long)) b.ensures.0
+    linked_none b.new.1.1.1.0 (omega (arith, b.ensures.1.long)) b.ensures.0
 
 -- no call makes the words more or fewer
 long : (l : tie.At-loop invariant-loop decreases-loop) → 8192 ≤ length l.loop.work
@@ -45,7 +45,7 @@ link-boat-requires : tie.Need-link-boat-requires invariant-loop decreases-loop
 link-boat-requires c κs =
     let l = c.before.before in
     let sane = (S l).requires.0 in
-    (sane, ((omega arith, linked-at sane l.loop.invariant, long l), λ h lh. l.loop.invariant.indexed h l.loop.i lh (omega arith) (omega arith)))
+    (sane, ((omega arith, linked_at sane l.loop.invariant, long l), λ h lh. l.loop.invariant.indexed h l.loop.i lh (omega arith) (omega arith)))
 
 add-work : tie.Need-overflow-add-work invariant-loop decreases-loop
 add-work c = search rules
@@ -54,7 +54,7 @@ mul-work : tie.Need-overflow-mul-work invariant-loop decreases-loop
 mul-work c = search rules
 
 slice-write-work-2 : tie.Need-slice-write-work-2 invariant-loop decreases-loop
-slice-write-work-2 c = omega (arith, long c.before.before.before.before.before, c.before.before.link-boat.ensures.1.long)
+slice-write-work-2 c = omega (arith, long c.before.before.before.before.before, c.before.before.link_boat_lem.ensures.1.long)
 
 add-i : tie.Need-overflow-add-i invariant-loop decreases-loop
 add-i c = search rules
@@ -65,8 +65,8 @@ loop-less c = search rules
 loop-again : tie.Need-loop-preserved invariant-loop decreases-loop
 loop-again c =
     let l = c.before.before.before.before.before in
-    let e = c.before.before.link-boat.ensures in
-    linked-more (S l).requires.0 l.loop.invariant (omega arith) (long l) e.0 e.1
+    let e = c.before.before.link_boat_lem.ensures in
+    linked_more (S l).requires.0 l.loop.invariant (omega arith) (long l) e.0 e.1
 
 same_length : tie.Need-same-length invariant-loop decreases-loop
 same_length c = let l = c.before in simp length-set at l.loop.invariant.only.long ∙ (indexed l).index_back.ensures.1.long
@@ -75,8 +75,8 @@ returns : tie.Need-returns invariant-loop decreases-loop
 returns c =
     let l = c.before in
     let o = (indexed l).index_back.ensures.1 in (
-      linked-all (S l).requires.0 l.loop.invariant c.loop-test.false,
-      only-trans (only-widen (omega arith) (omega arith) o) (only-trans (only_set _ 192 0 (omega arith) (omega arith)) l.loop.invariant.only),
+      linked_all (S l).requires.0 l.loop.invariant c.loop-test.false,
+      only_trans (only_widen (omega arith) (omega arith) o) (only_trans (only_set _ 192 0 (omega arith) (omega arith)) l.loop.invariant.only),
     )
 
 pub link-back-spec : {M : Type 1} → statement M

@@ -6,8 +6,8 @@ use native.Mathlib.Omega.{arith}
 use lib.ListN.{length}
 use Rattle.problem.specs.Tables.{tables}
 use Rattle.words.specs.Layout.{word}
-use Rattle.words.proofs.Triangle.{tri-small}
-use Rattle.index.proofs.Linking.{RowTo, row-none, row-bounds, row-index-few, row-past, row-link, row-all}
+use Rattle.words.proofs.Triangle.{tri_small}
+use Rattle.index.proofs.Linking.{RowTo, row_none, row_bounds, row_index_few, row_past, row_link, row_all}
 use Rattle.index.proofs.link_boat.Statement.{statement}
 use Rattle.index.proofs.link_boat.Tie as tie
 
@@ -28,7 +28,7 @@ row-at-requires : tie.Need-row-at-requires invariant-loop decreases-loop
 row-at-requires c κs = search rules
 
 loop-holds : tie.Need-loop-init invariant-loop decreases-loop
-loop-holds c = row-none _ _ _
+loop-holds c = row_none _ _ _
 
 -- the word read and the word written are words of the index
 within : (c : tie.In-loop invariant-loop decreases-loop)
@@ -36,7 +36,7 @@ within : (c : tie.In-loop invariant-loop decreases-loop)
     (c.before.before.row_at.result + l.h < length l.work) × (512 + l.to < length l.work) × (c.before.before.row_at.result + l.h < 4096) × (512 + l.to < 4096)
 within c =
     let l = c.before in
-    omega (arith, tri-small (S l).args.i (omega arith), row-bounds l.loop.invariant, l.loop.invariant.only.long)
+    omega (arith, tri_small (S l).args.i (omega arith), row_bounds l.loop.invariant, l.loop.invariant.only.long)
 
 add-index : tie.Need-overflow-add-index invariant-loop decreases-loop
 add-index c = omega (arith, within c)
@@ -50,7 +50,7 @@ slice-read-index c = omega (arith, within c.before)
 few : (c : tie.Then1 invariant-loop decreases-loop) → let l = c.before.before.before in word l.loop.work (l.before.row_at.result + l.loop.h) ≤ 129025
 few c =
     let l = c.before.before.before in
-    row-index-few l.loop.invariant (omega arith) l.before.row_at.ensures ((S l).requires.1.1 l.loop.h (omega arith)) (S l).requires.0
+    row_index_few l.loop.invariant (omega arith) l.before.row_at.ensures ((S l).requires.1.1 l.loop.h (omega arith)) (S l).requires.0
 
 sub-work : tie.Need-overflow-sub-work invariant-loop decreases-loop
 sub-work c = search rules
@@ -87,15 +87,15 @@ loop-again c =
     let lh : l.loop.h < s.args.i = omega arith in
     let d = s.pre.1.1 l.loop.h lh in
     ⊎_elim
-    (λ w. rw (w.1, w.2) (row-link l.loop.invariant s.pre.1.0.1 er d lh (omega arith) (within c.before.before).1))
-    (λ w. rw (w.1, w.2) (row-past l.loop.invariant s.pre.1.0.1 er d lh w.0.left))
+    (λ w. rw (w.1, w.2) (row_link l.loop.invariant s.pre.1.0.1 er d lh (omega arith) (within c.before.before).1))
+    (λ w. rw (w.1, w.2) (row_past l.loop.invariant s.pre.1.0.1 er d lh w.0.left))
     c.if1.branch
 
 same_length : tie.Need-same-length invariant-loop decreases-loop
 same_length c = c.before.loop.invariant.only.long
 
 returns : tie.Need-returns invariant-loop decreases-loop
-returns c = row-all c.before.loop.invariant (omega arith) c.loop-test.false
+returns c = row_all c.before.loop.invariant (omega arith) c.loop-test.false
 
 pub link-boat-spec : {M : Type 1} → statement M
 link-boat-spec =

@@ -59,8 +59,8 @@ returns c =
 same-length-2 : tie.Need-same-length-2
 same-length-2 c = search rules
 
-returns-2 : tie.Need-returns-2
-returns-2 c =
+returns_2 : tie.Need-returns-2
+returns_2 c =
     let v = c.before.before in
     let n = v.before.before in
     labels-as (entry n.before.before) n.enum_told.given.1 v.label-marked.new.1.1.1.1.1.1.0 v.label-marked.result v.label-marked.ensures
@@ -87,6 +87,6 @@ label-spec =
     same_length
     returns
     same-length-2
-    returns-2
+    returns_2
     same-length-3
     returns-3)

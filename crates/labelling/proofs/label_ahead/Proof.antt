@@ -4,11 +4,11 @@ use mathlib.Core.List.{List}
 use Prim.Native.Nat.{ℕ}
 use native.Mathlib.Omega.{arith}
 use Rattle.problem.specs.Tables.{Tables, tables}
-use Rattle.methods.specs.ByPlan.{aheadByPlan}
-use Rattle.words.proofs.ChangedOnly.{only-widen}
+use Rattle.methods.specs.ByPlan.{ahead_by_plan}
+use Rattle.words.proofs.ChangedOnly.{only_widen}
 use Rattle.looking_ahead.specs.Ahead.{LivesAfter}
-use Rattle.storing.proofs.Stored.{begun-below}
-use Rattle.labelling.proofs.Labels.{AfterVisit, ahead-blaming, ahead-blames, ahead-checks, ahead-trials, ahead-spent, ahead-passed}
+use Rattle.storing.proofs.Stored.{begun_below}
+use Rattle.labelling.proofs.Labels.{AfterVisit, ahead_blaming, ahead_blames, ahead_checks, ahead_trials, ahead_spent, ahead_passed}
 use borrow.Author.Rules.{rules}
 use Rattle.labelling.proofs.label_ahead.Statement.{statement}
 use Rattle.labelling.proofs.label_ahead.Tie as tie
@@ -31,7 +31,7 @@ after v = v.visit.new.1.1.1.1.1.1.1.1.0
 
 visited : (v : tie.After-visit) →
     let s = start v in
-    AfterVisit (T s) (aheadByPlan (T s)) s.args.backward (W s) s.args.i s.args.from v.before.before.begun-set.result s.args.start (after v) v.visit.result
+    AfterVisit (T s) (ahead_by_plan (T s)) s.args.backward (W s) s.args.i s.args.from v.before.before.begun-set.result s.args.start (after v) v.visit.result
 visited v =
     let s = start v in
     record {
@@ -39,7 +39,7 @@ visited v =
       begun = v.before.before.begun-set.ensures;
       sets = s.pre.1.sets;
       visits = v.visit.ensures.0;
-      only = only-widen (omega arith) (omega arith) v.visit.ensures.1.1;
+      only = only_widen (omega arith) (omega arith) v.visit.ensures.1.1;
     }
 
 begun-set-requires : tie.Need-begun-set-requires
@@ -49,7 +49,7 @@ visit-requires : tie.Need-visit-requires
 visit-requires c κs =
     let b = c.before in
     let s = entry b in
-    (s.pre.0, (s.pre.1.words, rw b.begun-set.ensures (begun-below s.args.backward (W s) s.args.i s.pre.1.sets)))
+    (s.pre.0, (s.pre.1.words, rw b.begun-set.ensures (begun_below s.args.backward (W s) s.args.i s.pre.1.sets)))
 
 enum-known-k : tie.Need-enum-known-k
 enum-known-k c = search rules
@@ -65,8 +65,8 @@ blame-requires c κs =
     let s = start v in
     let g = n.k.given in
     rw x.store-passed.ensures (
-      ahead-blaming (visited v) s.pre.1.words v.visit.ensures.1.1 g.0.1.1.0 g.0.1.0,
-      ahead-blames (visited v) s.pre.1.words v.visit.ensures.1.1 g.0.1.1.0 g.0.1.0,
+      ahead_blaming (visited v) s.pre.1.words v.visit.ensures.1.1 g.0.1.1.0 g.0.1.0,
+      ahead_blames (visited v) s.pre.1.words v.visit.ensures.1.1 g.0.1.1.0 g.0.1.0,
     )
 
 enum-known-k-2 : tie.Need-enum-known-k-2
@@ -92,19 +92,19 @@ returns c =
     let v = n.before.before.before.before in
     let s = start v in
     let g = n.k.given in
-    ahead-passed (visited v) s.pre.1.words v.visit.ensures.1.1 g.0.1.1.0 g.0.1.0 g.0.0 g.1
+    ahead_passed (visited v) s.pre.1.words v.visit.ensures.1.1 g.0.1.1.0 g.0.1.0 g.0.0 g.1
     (subst (LivesAfter (T s) (W s) s.args.i (after v)) g.1 v.visit.ensures.1.0) (rw x.store-passed.ensures at y.blame.ensures.1) y.blame.ensures.0
 
 same-length-2 : tie.Need-same-length-2
 same-length-2 c = search rules
 
-returns-2 : tie.Need-returns-2
-returns-2 c =
+returns_2 : tie.Need-returns-2
+returns_2 c =
     let x = c.before.before in
     let n = x.before.before.before in
     let v = n.before.before.before.before in
     let g = n.k2.given in
-    rw x.store-set.ensures (ahead-spent (visited v) (start v).requires.1.words v.visit.ensures.1.1 g.0.1.0 g.0.0 g.1)
+    rw x.store-set.ensures (ahead_spent (visited v) (start v).requires.1.words v.visit.ensures.1.1 g.0.1.0 g.0.0 g.1)
 
 same-length-3 : tie.Need-same-length-3
 same-length-3 c = search rules
@@ -114,7 +114,7 @@ returns-3 c =
     let n = c.before in
     let v = n.before.before.before.before in
     let g = n.k3.given in
-    ahead-checks (visited v) (start v).requires.1.words v.visit.ensures.1.1 g.0.1.1.0 g.0.1.0 g.0.1.1.1.0 g.0.0 g.1
+    ahead_checks (visited v) (start v).requires.1.words v.visit.ensures.1.1 g.0.1.1.0 g.0.1.0 g.0.1.1.1.0 g.0.0 g.1
 
 same-length-4 : tie.Need-same-length-4
 same-length-4 c = search rules
@@ -124,7 +124,7 @@ returns-4 c =
     let n = c.before in
     let v = n.before.before.before.before in
     let g = n.k4.given in
-    ahead-trials (visited v) (start v).requires.1.words v.visit.ensures.1.1 g.0.1.1.0 g.0.1.0 g.0.0 g.1
+    ahead_trials (visited v) (start v).requires.1.words v.visit.ensures.1.1 g.0.1.1.0 g.0.1.0 g.0.0 g.1
 
 pub label-ahead-spec : {M : Type 1} → statement M
 label-ahead-spec =
@@ -142,7 +142,7 @@ label-ahead-spec =
     same_length
     returns
     same-length-2
-    returns-2
+    returns_2
     same-length-3
     returns-3
     same-length-4

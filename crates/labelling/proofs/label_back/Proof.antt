@@ -2,10 +2,10 @@
 use mathlib.Core.List.{List}
 use Prim.Native.Nat.{ℕ}
 use Rattle.problem.specs.Tables.{Tables, tables}
-use Rattle.methods.specs.BT.{lookingBack}
-use Rattle.words.proofs.ChangedOnly.{only-refl}
-use Rattle.storing.proofs.Stored.{begun-below}
-use Rattle.labelling.proofs.Labels.{AfterVisit, back-passed, back-spent, back-checks, back-trials}
+use Rattle.methods.specs.BT.{looking_back}
+use Rattle.words.proofs.ChangedOnly.{only_refl}
+use Rattle.storing.proofs.Stored.{begun_below}
+use Rattle.labelling.proofs.Labels.{AfterVisit, back_passed, back_spent, back_checks, back_trials}
 use borrow.Author.Rules.{rules}
 use Rattle.labelling.proofs.label_back.Statement.{statement}
 use Rattle.labelling.proofs.label_back.Tie as tie
@@ -25,7 +25,7 @@ W s = s.args.work.now
 
 visited : (v : tie.After-visit) →
     let s = start v in
-    AfterVisit (T s) (lookingBack (T s)) s.args.backward (W s) s.args.i s.args.from v.before.before.begun-set.result s.args.start (W s) v.visit.result
+    AfterVisit (T s) (looking_back (T s)) s.args.backward (W s) s.args.i s.args.from v.before.before.begun-set.result s.args.start (W s) v.visit.result
 visited v =
     let s = start v in
     record {
@@ -33,7 +33,7 @@ visited v =
       begun = v.before.before.begun-set.ensures;
       sets = s.pre.1.sets;
       visits = v.visit.ensures s.args.backward;
-      only = only-refl _ _ _;
+      only = only_refl _ _ _;
     }
 
 begun-set-requires : tie.Need-begun-set-requires
@@ -43,7 +43,7 @@ visit-requires : tie.Need-visit-requires
 visit-requires c κs =
     let b = c.before in
     let s = entry b in
-    (s.pre.0, (s.pre.1.words, rw b.begun-set.ensures (begun-below s.args.backward (W s) s.args.i s.pre.1.sets)))
+    (s.pre.0, (s.pre.1.words, rw b.begun-set.ensures (begun_below s.args.backward (W s) s.args.i s.pre.1.sets)))
 
 enum-known-k : tie.Need-enum-known-k
 enum-known-k c = search rules
@@ -72,18 +72,18 @@ returns c =
     let n = x.before.before.before in
     let v = n.before.before in
     let g = n.k.given in
-    rw x.store-passed.ensures (back-passed (visited v) (start v).requires.1.words g.0.1.1.0 g.0.1.0 g.0.0 g.1)
+    rw x.store-passed.ensures (back_passed (visited v) (start v).requires.1.words g.0.1.1.0 g.0.1.0 g.0.0 g.1)
 
 same-length-2 : tie.Need-same-length-2
 same-length-2 c = search rules
 
-returns-2 : tie.Need-returns-2
-returns-2 c =
+returns_2 : tie.Need-returns-2
+returns_2 c =
     let x = c.before.before in
     let n = x.before.before.before in
     let v = n.before.before in
     let g = n.k2.given in
-    rw x.store-set.ensures (back-spent (visited v) (start v).requires.1.words g.0.1.0 g.0.0 g.1)
+    rw x.store-set.ensures (back_spent (visited v) (start v).requires.1.words g.0.1.0 g.0.0 g.1)
 
 same-length-3 : tie.Need-same-length-3
 same-length-3 c = search rules
@@ -93,7 +93,7 @@ returns-3 c =
     let n = c.before in
     let v = n.before.before in
     let g = n.k3.given in
-    back-checks (visited v) (start v).requires.1.words g.0.1.1.0 g.0.1.0 g.0.1.1.1.0 g.0.0 g.1
+    back_checks (visited v) (start v).requires.1.words g.0.1.1.0 g.0.1.0 g.0.1.1.1.0 g.0.0 g.1
 
 same-length-4 : tie.Need-same-length-4
 same-length-4 c = search rules
@@ -103,7 +103,7 @@ returns-4 c =
     let n = c.before in
     let v = n.before.before in
     let g = n.k4.given in
-    back-trials (visited v) (start v).requires.1.words g.0.1.1.0 g.0.1.0 g.0.0 g.1
+    back_trials (visited v) (start v).requires.1.words g.0.1.1.0 g.0.1.0 g.0.0 g.1
 
 pub label-back-spec : {M : Type 1} → statement M
 label-back-spec =
@@ -120,7 +120,7 @@ label-back-spec =
     same_length
     returns
     same-length-2
-    returns-2
+    returns_2
     same-length-3
     returns-3
     same-length-4

@@ -3,8 +3,8 @@ use mathlib.Core.List.{List}
 use Prim.Native.Nat.{ℕ}
 use native.Mathlib.Omega.{arith}
 use Rattle.problem.specs.Tables.{Tables, tables}
-use Rattle.words.proofs.ChangedOnly.{only-widen}
-use Rattle.labelling.proofs.Labels.{AfterMarked, marked-passed, marked-spent, marked-checks, marked-trials}
+use Rattle.words.proofs.ChangedOnly.{only_widen}
+use Rattle.labelling.proofs.Labels.{AfterMarked, marked_passed, marked_spent, marked_checks, marked_trials}
 use borrow.Author.Rules.{rules}
 use Rattle.labelling.proofs.label_marked.Statement.{statement}
 use Rattle.labelling.proofs.label_marked.Tie as tie
@@ -25,12 +25,12 @@ after v = v.visit.new.1.1.1.1.1.1.0
 visited : (v : tie.After-visit) → let s = entry v in AfterMarked (T s) (W s) s.args.i s.args.from s.args.start (after v) v.visit.result
 visited v =
     let s = entry v in
-    let few = s.pre.0.sane.fewBoats in
+    let few = s.pre.0.sane.few_boats in
     record {
       standing = s.pre.0;
       kept = s.pre.1;
       visits = v.visit.ensures.0;
-      only = only-widen (omega arith) (omega (arith, s.pre.0.boat)) v.visit.ensures.1;
+      only = only_widen (omega arith) (omega (arith, s.pre.0.boat)) v.visit.ensures.1;
     }
 
 visit-requires : tie.Need-visit-requires
@@ -61,16 +61,16 @@ returns : tie.Need-returns
 returns c =
     let n = c.before in
     let g = n.k.given in
-    marked-passed (visited n.before.before.before.before) g.0.1.1.0 g.0.1.0 g.0.0 g.1
+    marked_passed (visited n.before.before.before.before) g.0.1.1.0 g.0.1.0 g.0.0 g.1
 
 same-length-2 : tie.Need-same-length-2
 same-length-2 c = search rules
 
-returns-2 : tie.Need-returns-2
-returns-2 c =
+returns_2 : tie.Need-returns-2
+returns_2 c =
     let n = c.before in
     let g = n.k2.given in
-    marked-spent (visited n.before.before.before.before) g.0.1.0 g.0.0 g.1
+    marked_spent (visited n.before.before.before.before) g.0.1.0 g.0.0 g.1
 
 same-length-3 : tie.Need-same-length-3
 same-length-3 c = search rules
@@ -79,7 +79,7 @@ returns-3 : tie.Need-returns-3
 returns-3 c =
     let n = c.before in
     let g = n.k3.given in
-    marked-checks (visited n.before.before.before.before) g.0.1.1.0 g.0.1.0 g.0.1.1.1.0 g.0.0 g.1
+    marked_checks (visited n.before.before.before.before) g.0.1.1.0 g.0.1.0 g.0.1.1.1.0 g.0.0 g.1
 
 same-length-4 : tie.Need-same-length-4
 same-length-4 c = search rules
@@ -88,7 +88,7 @@ returns-4 : tie.Need-returns-4
 returns-4 c =
     let n = c.before in
     let g = n.k4.given in
-    marked-trials (visited n.before.before.before.before) g.0.1.1.0 g.0.1.0 g.0.0 g.1
+    marked_trials (visited n.before.before.before.before) g.0.1.1.0 g.0.1.0 g.0.0 g.1
 
 pub label-marked-spec : {M : Type 1} → statement M
 label-marked-spec =
@@ -104,7 +104,7 @@ label-marked-spec =
     same_length
     returns
     same-length-2
-    returns-2
+    returns_2
     same-length-3
     returns-3
     same-length-4

@@ -5,7 +5,7 @@ use borrow.Author.Rules.{rules}
 use native.Mathlib.Omega.{arith}
 use lib.ListN.{length}
 use Rattle.problem.specs.Tables.{tables}
-use Rattle.live_words.proofs.Filled.{FilledTo, filled_none, filled_more, filled-all}
+use Rattle.live_words.proofs.Filled.{FilledTo, filled_none, filled_more, filled_all}
 use Rattle.live_words.proofs.fill_slots.Statement.{statement}
 use Rattle.live_words.proofs.fill_slots.Tie as tie
 
@@ -28,7 +28,7 @@ size-of-requires c κs = search rules
 all-slots-requires : tie.Need-all-slots-requires invariant-loop decreases-loop
 all-slots-requires c κs =
     let l = c.before.before in
-    omega (arith, (entry l).requires.0.fewSlots l.loop.j c.before.loop-test.true, c.type_size.ensures.0)
+    omega (arith, (entry l).requires.0.few_slots l.loop.j c.before.loop-test.true, c.type_size.ensures.0)
 
 add-work : tie.Need-overflow-add-work invariant-loop decreases-loop
 add-work c = search rules
@@ -56,7 +56,7 @@ same_length : tie.Need-same-length invariant-loop decreases-loop
 same_length c = c.before.loop.invariant.only.long
 
 returns : tie.Need-returns invariant-loop decreases-loop
-returns c = let f = c.before.loop.invariant in (filled-all f c.loop-test.false, f.only)
+returns c = let f = c.before.loop.invariant in (filled_all f c.loop-test.false, f.only)
 
 pub fill-slots-spec : {M : Type 1} → statement M
 fill-slots-spec =

@@ -5,12 +5,12 @@ use Prim.Native.Nat.{ℕ, ◌+◌, ◌-◌, ◌≤◌}
 use borrow.Author.Rules.{rules}
 use native.Mathlib.Omega.{arith}
 use lib.ListN.{length, set}
-use Rattle.loading.proofs.Filling.{rowsWith, rows-begin, rows_more, rows-done, rows-length}
+use Rattle.loading.proofs.Filling.{rows_with, rows_begin, rows_more, rows_done, rows_length}
 use Rattle.loading.proofs.fill_rows.Statement.{statement}
 use Rattle.loading.proofs.fill_rows.Tie as tie
 
 abbrev invariant-loop : tie.invariant-loop
-invariant-loop file at slots rows₀ first k₀ rows k = (k ≤ slots) × (rows ≡ rowsWith file at rows₀ first k)
+invariant-loop file at slots rows₀ first k₀ rows k = (k ≤ slots) × (rows ≡ rows_with file at rows₀ first k)
 
 abbrev decreases-loop : tie.decreases-loop
 decreases-loop file at slots rows₀ first k₀ rows k = slots - k
@@ -18,10 +18,10 @@ decreases-loop file at slots rows₀ first k₀ rows k = slots - k
 long : (c : tie.At-loop invariant-loop decreases-loop) → length c.loop.rows ≡ length c.before.before.before.args.rows.now
 long c =
     let a = c.before.before.before.args in
-    ap length c.loop.invariant.1 ∙ rows-length a.file.now a.at a.rows.now a.first c.loop.k (omega (arith, c.loop.invariant.0, c.before.before.before.requires.1))
+    ap length c.loop.invariant.1 ∙ rows_length a.file.now a.at a.rows.now a.first c.loop.k (omega (arith, c.loop.invariant.0, c.before.before.before.requires.1))
 
 loop-holds : tie.Need-loop-init invariant-loop decreases-loop
-loop-holds c = (omega arith, rows-begin _ _ _ _)
+loop-holds c = (omega arith, rows_begin _ _ _ _)
 
 mul-word-at : tie.Need-overflow-mul-word-at invariant-loop decreases-loop
 mul-word-at c = search rules
@@ -63,7 +63,7 @@ returns : tie.Need-returns invariant-loop decreases-loop
 returns c =
     let a = c.before.before.before.before.args in
     let e : c.before.loop.k ≡ a.slots = omega arith in
-    rw (← e) (c.before.loop.invariant.1 ∙ rows-done a.file.now a.at a.rows.now a.first c.before.loop.k)
+    rw (← e) (c.before.loop.invariant.1 ∙ rows_done a.file.now a.at a.rows.now a.first c.before.loop.k)
 
 pub fill-rows-spec : {M : Type 1} → statement M
 fill-rows-spec =

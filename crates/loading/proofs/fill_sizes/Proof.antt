@@ -5,7 +5,7 @@ use Prim.Native.Nat.{ℕ, ◌+◌, ◌-◌, ◌≤◌}
 use borrow.Author.Rules.{rules}
 use native.Mathlib.Omega.{arith}
 use lib.ListN.{length, get_or, take, drop, set, length-set}
-use Rattle.loading.proofs.Filling.{sizes-more}
+use Rattle.loading.proofs.Filling.{sizes_more}
 use Rattle.loading.proofs.fill_sizes.Statement.{statement}
 use Rattle.loading.proofs.fill_sizes.Tie as tie
 
@@ -40,7 +40,7 @@ loop-again c =
     let v = get_or a.file.now (3 + l.i) 0 in (
       omega arith,
       length-set l.sizes l.i v ∙ l.invariant.1,
-      ap (λ (w : List ℕ). set w l.i v) l.invariant.2 ∙ sizes-more a.file.now a.sizes.now l.i (omega arith) (omega arith),
+      ap (λ (w : List ℕ). set w l.i v) l.invariant.2 ∙ sizes_more a.file.now a.sizes.now l.i (omega arith) (omega arith),
     )
 
 same_length : tie.Need-same-length invariant-loop decreases-loop

@@ -11,18 +11,18 @@ use lib.ListN.{length}
 use Rattle.problem.specs.Tables.{Tables, tables, size, bit}
 use Rattle.events.specs.declared.Counts.{Counts}
 use Rattle.words.specs.Layout.{word, left_at}
-use Rattle.words.proofs.ChangedOnly.{only-refl}
-use Rattle.words.proofs.Chains.{last-before}
-use Rattle.visits.proofs.Ends.{come-here}
-use Rattle.live_words.specs.Lives.{leftWord}
-use Rattle.looking_ahead.proofs.Ahead.{Ready, Reached, sweepable, Comes, DueAt, due-next, none-due, trial-made, no-trial, AfterSweep, kept-after, swept-clear, clear-lives, swept-out, out-rises, out-few, is-pair, before-few, emptied-steps, emptied-jumps}
+use Rattle.words.proofs.ChangedOnly.{only_refl}
+use Rattle.words.proofs.Chains.{last_before_lem}
+use Rattle.visits.proofs.Ends.{come_here}
+use Rattle.live_words.specs.Lives.{left_word}
+use Rattle.looking_ahead.proofs.Ahead.{Ready, Reached, sweepable, Comes, DueAt, due_next, none_due, trial_made, no_trial, AfterSweep, kept_after, swept_clear, clear_lives, swept_out, out_rises, out_few, is_pair_lem, before_few, emptied_steps, emptied_jumps}
 use Rattle.looking_ahead.proofs.visit.Statement.{statement}
 use Rattle.looking_ahead.proofs.visit.Tie as tie
 
 abbrev invariant-loop : tie.invariant-loop
 invariant-loop backward sizes pairs rows i from with work₀ live own size slot₀ set₀ counts₀ work slot set counts =
     let t = tables sizes pairs rows in
-    Reached t work₀ i work × (set < 2 ^ i) × DueAt t work₀ i backward from with counts₀ slot set counts × (slot < 64 → bit (leftWord t work₀ i i) slot ≡ true)
+    Reached t work₀ i work × (set < 2 ^ i) × DueAt t work₀ i backward from with counts₀ slot set counts × (slot < 64 → bit (left_word t work₀ i i) slot ≡ true)
 
 abbrev decreases-loop : tie.decreases-loop
 decreases-loop backward sizes pairs rows i from with work₀ live own size slot₀ set₀ counts₀ work slot set counts = size - slot
@@ -54,7 +54,7 @@ in_size : (c : tie.In-loop invariant-loop decreases-loop) → c.before.loop.slot
 in_size c = omega (arith, c.loop-test.true, (read c.before).own-pairs.ensures.slots)
 
 few : (c : tie.In-loop invariant-loop decreases-loop) → c.before.loop.slot < 64
-few c = let s = S c.before in omega (arith, in_size c, s.pre.0.sane.fewSlots (I s) s.pre.0.boat)
+few c = let s = S c.before in omega (arith, in_size c, s.pre.0.sane.few_slots (I s) s.pre.0.boat)
 
 ready : (s : tie.Start invariant-loop decreases-loop) → Ready s.args.backward (T s) (W s) (I s)
 ready s = record { sane = s.requires.0.sane; boat = s.requires.0.boat; room = s.requires.0.room; kept = s.requires.1.0 }
@@ -64,9 +64,9 @@ stands : (s : tie.Start invariant-loop decreases-loop) → word (W s) (448 + I s
 stands s = s.requires.1.0.chained.last (I s) s.requires.0.boat
 
 among : (s : tie.Start invariant-loop decreases-loop) → word (W s) (448 + I s) < 8192
-among s = omega (arith, last-before (T s) s.requires.0.sane s.requires.1.0.chained (I s) s.requires.0.boat, s.requires.0.sane.fewPairs)
+among s = omega (arith, last_before_lem (T s) s.requires.0.sane s.requires.1.0.chained (I s) s.requires.0.boat, s.requires.0.sane.few_pairs)
 
-is-live-word : (s : tie.Start invariant-loop decreases-loop) → word (W s) (word (W s) (448 + I s)) ≡ leftWord (T s) (W s) (I s) (I s)
+is-live-word : (s : tie.Start invariant-loop decreases-loop) → word (W s) (word (W s) (448 + I s)) ≡ left_word (T s) (W s) (I s) (I s)
 is-live-word s = ap (word (W s)) (stands s)
 
 -- at a slot
@@ -76,8 +76,8 @@ came c =
     let d = l.loop.invariant.2 in
     subst (λ (a : ℕ). Came (S l) a l.loop.set l.loop.counts) (d.here (in_size c)) d.comes
 
-is_live : (c : tie.In-loop invariant-loop decreases-loop) → let l = c.before in bit (leftWord (T (S l)) (W (S l)) (I (S l)) (I (S l))) l.loop.slot ≡ true
-is_live c = c.before.loop.invariant.3 (few c)
+is_live_lem : (c : tie.In-loop invariant-loop decreases-loop) → let l = c.before in bit (left_word (T (S l)) (W (S l)) (I (S l)) (I (S l))) l.loop.slot ≡ true
+is_live_lem c = c.before.loop.invariant.3 (few c)
 
 -- after a sweep: the place before its trial, and its words
 abbrev turn : tie.After-sweep invariant-loop decreases-loop → tie.In-loop invariant-loop decreases-loop
@@ -101,9 +101,9 @@ swept c =
     record {
       ready = ready s;
       slot = in_size d;
-      live = is_live d;
+      live = is_live_lem d;
       comes = came d;
-      counted = trial-made (ready s) s.args.from s.args.with s.args.start _ l.loop.set (in_size d) (is_live d) (came d)
+      counted = trial_made (ready s) s.args.from s.args.with s.args.start _ l.loop.set (in_size d) (is_live_lem d) (came d)
           c.before.before.before.before.before.trial.ensures c.before.before.before.k.given.1;
       kept = l.loop.inv.0;
       sweeps = c.sweep.ensures.0;
@@ -114,15 +114,15 @@ swept c =
 emptied : (c : tie.After-k3 invariant-loop decreases-loop) → c.k3.given.0.1.0 < 2016
 emptied c =
     let w = c.before.before.before.before in
-    omega (arith, is-pair (swept w) c.k3.given.1, (S (head w)).pre.0.sane.fewPairs)
+    omega (arith, is_pair_lem (swept w) c.k3.given.1, (S (head w)).pre.0.sane.few_pairs)
 
 before_small : (c : tie.After-k3 invariant-loop decreases-loop) → let w = c.before.before.before.before in word (after w) (512 + c.k3.given.0.1.0) < 6112
 before_small c =
     let w = c.before.before.before.before in
-    omega (arith, before-few (swept w) c.k3.given.1, (S (head w)).pre.0.sane.fewPairs)
+    omega (arith, before_few (swept w) c.k3.given.1, (S (head w)).pre.0.sane.few_pairs)
 
 long : (w : tie.After-sweep invariant-loop decreases-loop) → 8192 ≤ length (after w)
-long w = omega (arith, (kept-after (swept w)).long, (S (head w)).pre.0.room)
+long w = omega (arith, (kept_after (swept w)).long, (S (head w)).pre.0.room)
 
 add-live : tie.Need-overflow-add-live invariant-loop decreases-loop
 add-live c = search rules
@@ -140,7 +140,7 @@ slice-read-live-2 : tie.Need-slice-read-live-2 invariant-loop decreases-loop
 slice-read-live-2 c = let s = entry c in omega (arith, among s, s.pre.0.room)
 
 own-pairs-requires : tie.Need-own-pairs-requires invariant-loop decreases-loop
-own-pairs-requires c κs = let s = entry c.before in ((s.pre.0.boat, s.pre.0.sane.fewBoats, s.pre.0.room), s.pre.1.0.firsts)
+own-pairs-requires c κs = let s = entry c.before in ((s.pre.0.boat, s.pre.0.sane.few_boats, s.pre.0.room), s.pre.1.0.firsts)
 
 next-live-requires : tie.Need-next-live-requires invariant-loop decreases-loop
 next-live-requires c κs = search rules
@@ -149,9 +149,9 @@ loop-holds : tie.Need-loop-init invariant-loop decreases-loop
 loop-holds c =
     let s = entry c.before.before.before in
     let n = c.next-live.ensures in (
-      only-refl _ _ _,
+      only_refl _ _ _,
       s.pre.1.1,
-      due-next (ready s) s.args.from s.args.with s.args.start s.args.from _ _ _ (is-live-word s) n (come-here (T s) _ s.pre.0.fits),
+      due_next (ready s) s.args.from s.args.with s.args.start s.args.from _ _ _ (is-live-word s) n (come_here (T s) _ s.pre.0.fits),
       (λ l. sym (ap (λ (v : ℕ). bit v c.next-live.result) (is-live-word s)) ∙ n.alive l),
     )
 
@@ -174,7 +174,7 @@ returns c =
     let s = S l in (
       record {
         below = l.loop.invariant.1;
-        ends = no-trial (ready s) s.args.from s.args.with s.args.start _ l.loop.set (in_size d) (is_live d) (came d) c.before.before.trial.ensures
+        ends = no_trial (ready s) s.args.from s.args.with s.args.start _ l.loop.set (in_size d) (is_live_lem d) (came d) c.before.before.trial.ensures
             c.enum_told.given.1;
       },
       (tt, l.loop.invariant.0),
@@ -188,7 +188,7 @@ sweep-requires c κs =
       sweepable (ready s) l.loop.invariant.0 l.loop.slot (in_size d),
       (
         (read l).own-pairs.ensures,
-        (trial-made (ready s) s.args.from s.args.with s.args.start _ l.loop.set (in_size d) (is_live d) (came d) c.before.before.before.before.trial.ensures
+        (trial_made (ready s) s.args.from s.args.with s.args.start _ l.loop.set (in_size d) (is_live_lem d) (came d) c.before.before.before.before.trial.ensures
             c.before.before.k.given.1).fits,
       ),
     )
@@ -197,13 +197,13 @@ enum-known-k-2 : tie.Need-enum-known-k-2 invariant-loop decreases-loop
 enum-known-k-2 c = search rules
 
 same-length-2 : tie.Need-same-length-2 invariant-loop decreases-loop
-same-length-2 c = (kept-after (swept c.before.before.before.before.before)).long
+same-length-2 c = (kept_after (swept c.before.before.before.before.before)).long
 
-returns-2 : tie.Need-returns-2 invariant-loop decreases-loop
-returns-2 c =
+returns_2 : tie.Need-returns-2 invariant-loop decreases-loop
+returns_2 c =
     let w = c.before.before.before.before.before in (
-      record { below = (head w).loop.invariant.1; ends = swept-clear (swept w) c.before.k2.given.1 },
-      (clear-lives (swept w) c.before.k2.given.1, kept-after (swept w)),
+      record { below = (head w).loop.invariant.1; ends = swept_clear (swept w) c.before.k2.given.1 },
+      (clear_lives (swept w) c.before.k2.given.1, kept_after (swept w)),
     )
 
 enum-known-k-3 : tie.Need-enum-known-k-3 invariant-loop decreases-loop
@@ -239,21 +239,21 @@ enum-known-k-4 : tie.Need-enum-known-k-4 invariant-loop decreases-loop
 enum-known-k-4 c = search rules
 
 sub-made : tie.Need-overflow-sub-made invariant-loop decreases-loop
-sub-made c = let w = c.before.before.before.before.before.before.before in out-rises (swept w) c.before.before.before.k4.given.1
+sub-made c = let w = c.before.before.before.before.before.before.before in out_rises (swept w) c.before.before.before.k4.given.1
 
 add-made : tie.Need-overflow-add-made invariant-loop decreases-loop
 add-made c =
     let w = c.before.before.before.before.before.before.before in
-    omega (arith, out-few (swept w) c.before.before.before.k4.given.1)
+    omega (arith, out_few (swept w) c.before.before.before.k4.given.1)
 
 same-length-3 : tie.Need-same-length-3 invariant-loop decreases-loop
-same-length-3 c = (kept-after (swept c.before.before.before.before.before.before.before)).long
+same-length-3 c = (kept_after (swept c.before.before.before.before.before.before.before)).long
 
 returns-3 : tie.Need-returns-3 invariant-loop decreases-loop
 returns-3 c =
     let w = c.before.before.before.before.before.before.before in (
-      record { below = (head w).loop.invariant.1; ends = swept-out (swept w) c.before.before.before.k4.given.1 },
-      (tt, kept-after (swept w)),
+      record { below = (head w).loop.invariant.1; ends = swept_out (swept w) c.before.before.before.k4.given.1 },
+      (tt, kept_after (swept w)),
     )
 
 -- the next slot is due, before the dead ones are passed over
@@ -269,9 +269,9 @@ due c =
     let l = head w in
     let e = c.before.before.k3.given.1 in
     ⊎_elim
-    (λ z. subst (Due c) (sym z.2) (l.loop.inv.1, emptied-steps (swept w) e z.1.given.1))
+    (λ z. subst (Due c) (sym z.2) (l.loop.inv.1, emptied_steps (swept w) e z.1.given.1))
     (λ z.
-    let d = emptied-jumps (swept w) e z.1.given.1 (λ n. (c.before.before.before.before.slice-known4.given n).fits) in
+    let d = emptied_jumps (swept w) e z.1.given.1 (λ n. (c.before.before.before.before.slice-known4.given n).fits) in
     subst (Due c) (sym z.4) (or_lt (I (S l)) _ _ l.loop.inv.1 d.0, d.1))
     c.match3.branch
 
@@ -291,9 +291,9 @@ loop-again c =
     let s = S l in
     let d = due c.before in
     let n = c.next-live2.ensures in (
-      kept-after (swept w),
+      kept_after (swept w),
       d.0,
-      due-next (ready s) s.args.from s.args.with s.args.start (l.loop.slot + 1) _ _ _ (is-live-word s) n d.1,
+      due_next (ready s) s.args.from s.args.with s.args.start (l.loop.slot + 1) _ _ _ (is-live-word s) n d.1,
       (λ k. sym (ap (λ (v : ℕ). bit v c.next-live2.result) (is-live-word s)) ∙ n.alive k),
     )
 
@@ -306,7 +306,7 @@ returns-4 c =
     let s = S l in (
       record {
         below = l.loop.invariant.1;
-        ends = none-due (ready s) s.args.from s.args.with s.args.start l.loop.slot l.loop.set
+        ends = none_due (ready s) s.args.from s.args.with s.args.start l.loop.slot l.loop.set
             (omega (arith, c.loop-test.false, (read l).own-pairs.ensures.slots)) l.loop.invariant.2;
       },
       (tt, l.loop.invariant.0),
@@ -334,7 +334,7 @@ visit-spec =
     sweep-requires
     enum-known-k-2
     same-length-2
-    returns-2
+    returns_2
     enum-known-k-3
     enum-told-2
     enum-told-3

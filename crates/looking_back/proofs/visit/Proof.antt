@@ -11,29 +11,29 @@ use native.Mathlib.Numerals.{add-one}
 use native.Mathlib.Omega.{arith}
 use lib.ListN.{length, get_or, take}
 use lib.Seq.{length-take-le}
-use Rattle.problem.specs.Tables.{Tables, tables, boats, size, place, isListed, start, bit}
+use Rattle.problem.specs.Tables.{Tables, tables, boats, size, place, is_listed, start, bit}
 use Rattle.problem.specs.declared.Allowance.{Allowance}
 use Rattle.problem.specs.declared.Allowance.TheVariants.{Checks}
 use Rattle.events.specs.declared.Counts.{Counts}
 use Rattle.events.specs.Events.{trial}
-use Rattle.events.specs.Counts.{checkCounted, Makes, StopsIn}
-use Rattle.events.proofs.Leading.{makes-append, makes-trial, trial-stops, stops-behind, checks-made}
-use Rattle.methods.specs.Choices.{mayStand}
-use Rattle.methods.specs.BT.{Looked, lookBack, lookingBack}
-use Rattle.methods.proofs.Shown.{choices-size}
+use Rattle.events.specs.Counts.{check_counted, Makes, StopsIn}
+use Rattle.events.proofs.Leading.{makes_append, makes_trial, trial_stops, stops_behind, checks_made}
+use Rattle.methods.specs.Choices.{may_stand}
+use Rattle.methods.specs.BT.{Looked, look_back, looking_back}
+use Rattle.methods.proofs.Shown.{choices_size}
 use Rattle.words.specs.Layout.{word}
-use Rattle.words.specs.Sets.{setWords}
-use Rattle.words.proofs.Rows.{row-there, row-allows}
+use Rattle.words.specs.Sets.{set_words}
+use Rattle.words.proofs.Rows.{row_there, row_allows}
 use Rattle.visits.specs.declared.Backward.{Backward}
 use Rattle.visits.specs.declared.Backward.TheVariants.{OneBack}
 use Rattle.visits.specs.declared.Look.{Look}
-use Rattle.visits.specs.Looks.{checkedLook}
-use Rattle.visits.specs.Visits.{State, stepsOver, state, ComesTo, RunsOut}
-use Rattle.visits.proofs.Ends.{come-here, come-more}
-use Rattle.visits.proofs.Looking.{look_of, Looking, looks-begin, looks-allowed, looks-forbidden, looks-end, looks-out, looks-made-few}
-use Rattle.visits.proofs.Visiting.{in-choices}
-use Rattle.looking_back.proofs.Links.{Next, next, none_left, links-few, link-boat, link_row}
-use Rattle.looking_back.proofs.Trials.{LookedTo, slot-passes, slot-fails, slot-tries}
+use Rattle.visits.specs.Looks.{checked_look}
+use Rattle.visits.specs.Visits.{State, steps_over, state, ComesTo, RunsOut}
+use Rattle.visits.proofs.Ends.{come_here, come_more}
+use Rattle.visits.proofs.Looking.{look_of, Looking, looks_begin, looks_allowed, looks_forbidden, looks_end, looks_out, looks_made_few}
+use Rattle.visits.proofs.Visiting.{in_choices}
+use Rattle.looking_back.proofs.Links.{Next, next, none_left, links_few, link_boat_lem, link_row}
+use Rattle.looking_back.proofs.Trials.{LookedTo, slot_passes, slot_fails, slot_tries}
 use Rattle.looking_back.proofs.visit.Statement.{statement}
 use Rattle.looking_back.proofs.visit.Tie as tie
 
@@ -48,7 +48,7 @@ invariant-loop sizes pairs rows i from with work size first end slot₀ set₀ c
     let t = tables sizes pairs rows in
     (set < 2 ^ i)
     × ((backward : Backward) →
-    ComesTo t (stepsOver t (lookingBack t) backward) (take i work) slot₀ (state backward (setWords work i set₀)) counts₀ slot (state backward (setWords work i set)) counts)
+    ComesTo t (steps_over t (looking_back t) backward) (take i work) slot₀ (state backward (set_words work i set₀)) counts₀ slot (state backward (set_words work i set)) counts)
 
 abbrev decreases-loop : tie.decreases-loop
 decreases-loop sizes pairs rows i from with work size first end slot₀ set₀ counts₀ slot set counts = size - slot
@@ -61,7 +61,7 @@ abbrev entry : tie.After-size-of invariant-boats decreases-boats invariant-loop 
 entry c = c.before.before.before.before.before
 
 few : (s : Entry) → s.args.i < 64
-few s = omega (arith, s.pre.0.sane.fewBoats, s.pre.0.boat)
+few s = omega (arith, s.pre.0.sane.few_boats, s.pre.0.boat)
 
 -- the head of the loop over slots: the entry, its tables, its words and its boat
 abbrev Slots : Type 0
@@ -107,22 +107,22 @@ in_size d = omega (arith, d.before.before.before.before.type_size.ensures.0)
 module _ (backward : Backward) (l : Slots) where
   -- the slots up to this one are given up
   abbrev remembered : State backward
-  remembered = state backward (setWords (W l) (I l) l.loop.set)
+  remembered = state backward (set_words (W l) (I l) l.loop.set)
 
   abbrev Comes : Type 0
   Comes =
-      ComesTo (T l) (stepsOver (T l) (lookingBack (T l)) backward) (take (I l) (W l)) (S l).args.from (state backward (setWords (W l) (I l) (S l).args.with)) (S l).args.start
+      ComesTo (T l) (steps_over (T l) (looking_back (T l)) backward) (take (I l) (W l)) (S l).args.from (state backward (set_words (W l) (I l) (S l).args.with)) (S l).args.start
       l.loop.slot remembered l.loop.counts
 
 -- all that the looks of the slot at hand come to
 abbrev whole : Slots → Looked
-whole l = lookBack (T l) (I l) l.loop.slot 0 (take (I l) (W l))
+whole l = look_back (T l) (I l) l.loop.slot 0 (take (I l) (W l))
 
 -- a trial has been counted
-at-trial : (c : tie.After-known-told invariant-boats decreases-boats invariant-loop decreases-loop) → let l = (tried c).before in Makes l.loop.counts (trial (I l) l.loop.slot ∷ []) c.before.k.given.0.0
-at-trial c =
+at_trial : (c : tie.After-known-told invariant-boats decreases-boats invariant-loop decreases-loop) → let l = (tried c).before in Makes l.loop.counts (trial (I l) l.loop.slot ∷ []) c.before.k.given.0.0
+at_trial c =
     let l = (tried c).before in
-    makes-trial _ _ (l.loop.inv.1 OneBack).makes.fits (I l) l.loop.slot (sym c.before.before.before.trial.ensures ∙ c.before.k.given.1)
+    makes_trial _ _ (l.loop.inv.1 OneBack).makes.fits (I l) l.loop.slot (sym c.before.before.before.trial.ensures ∙ c.before.k.given.1)
 
 -- the counts when its looks begin
 abbrev begun : Boats → Counts
@@ -130,14 +130,14 @@ begun b = b.before.before.k.given.0.0
 
 -- its events and all that they count: the trial, and the checks up to some counts
 all_made : (b : Boats) {k : Counts} → let l = slots b in Makes (begun b) (whole l).checks k → Makes l.loop.counts (trial (I l) l.loop.slot ∷ (whole l).checks) k
-all_made b m = makes-append (at-trial b.before) m
+all_made b m = makes_append (at_trial b.before) m
 
 -- where the links of the boat end
 abbrev End : Slots → ℕ
 End l = word (W l) (193 + I l)
 
-few-links : (l : Slots) → End l ≤ 2016
-few-links l = links-few (T l) (W l) (I l) (S l).pre.1.0.linked (inside l) (S l).pre.0.sane.fewBoats
+few_links : (l : Slots) → End l ≤ 2016
+few_links l = links_few (T l) (W l) (I l) (S l).pre.1.0.linked (inside l) (S l).pre.0.sane.few_boats
 
 -- a link is left
 module _ (b : Boats) (left : b.boats.at < End (slots b)) where
@@ -154,44 +154,44 @@ module _ (b : Boats) (left : b.boats.at < End (slots b)) where
   small = omega (arith, there.below, few (S l))
 
   named : found % 64 ≡ there.boat
-  named = link-boat (T l) there.boat (I l) found there.isLink small
+  named = link_boat_lem (T l) there.boat (I l) found there.is_link small
 
   begins : found / 64 ≡ start (T l).sizes (T l).pairs (place (T l).pairs there.boat (I l))
-  begins = link_row (T l) there.boat (I l) found there.isLink small
+  begins = link_row (T l) there.boat (I l) found there.is_link small
 
   -- its row is there, and what it says
   row_inside : found / 64 + word (W l) (found % 64) < length (T l).rows
   row_inside =
       rw named
-      (row-there (T l) there.boat (I l) (found / 64) begins there.listed (word (W l) there.boat) (S l).pre.0.sane ((S l).pre.1.0.placed there.boat there.below))
+      (row_there (T l) there.boat (I l) (found / 64) begins there.listed (word (W l) there.boat) (S l).pre.0.sane ((S l).pre.1.0.placed there.boat there.below))
 
-  looked : (r : Look) → r ≡ checkedLook (bit (get_or (T l).rows (found / 64 + word (W l) (found % 64)) 0) l.loop.slot) (checkCounted b.boats.counts) →
-      r ≡ look_of (isListed (T l).pairs there.boat (I l)) (mayStand (T l) there.boat (word (W l) there.boat) (I l) l.loop.slot) b.boats.counts
+  looked : (r : Look) → r ≡ checked_look (bit (get_or (T l).rows (found / 64 + word (W l) (found % 64)) 0) l.loop.slot) (check_counted b.boats.counts) →
+      r ≡ look_of (is_listed (T l).pairs there.boat (I l)) (may_stand (T l) there.boat (word (W l) there.boat) (I l) l.loop.slot) b.boats.counts
   looked r e =
       e
-      ∙ ap (λ (o : Bool). checkedLook o (checkCounted b.boats.counts))
+      ∙ ap (λ (o : Bool). checked_look o (check_counted b.boats.counts))
       (ap (λ (n : ℕ). bit (get_or (T l).rows (found / 64 + word (W l) n) 0) l.loop.slot) named
-      ∙ row-allows (T l) there.boat (I l) (found / 64) begins there.listed (word (W l) there.boat) l.loop.slot)
-      ∙ ap (λ (o : Bool). look_of o (mayStand (T l) there.boat (word (W l) there.boat) (I l) l.loop.slot) b.boats.counts) (sym there.listed)
+      ∙ row_allows (T l) there.boat (I l) (found / 64) begins there.listed (word (W l) there.boat) l.loop.slot)
+      ∙ ap (λ (o : Bool). look_of o (may_stand (T l) there.boat (word (W l) there.boat) (I l) l.loop.slot) b.boats.counts) (sym there.listed)
 
   -- the boats before that one are passed
-  looking-there : Looking (T l) (W l) (I l) l.loop.slot (whole l) (begun b) there.boat b.boats.counts
-  looking-there = there.passed b.boats.inv.looking
+  looking_there : Looking (T l) (W l) (I l) l.loop.slot (whole l) (begun b) there.boat b.boats.counts
+  looking_there = there.passed b.boats.inv.looking
 
 -- the run ends inside the step at the slot at hand
 stopped : (backward : Backward) (d : Turn) {which : Allowance} {made : ℕ} {k : Counts} →
     let l = d.before in
     StopsIn l.loop.counts (trial (I l) l.loop.slot ∷ (whole l).checks) which made k →
-    RunsOut (T l) (stepsOver (T l) (lookingBack (T l)) backward) (take (I l) (W l)) (S l).args.from (state backward (setWords (W l) (I l) (S l).args.with)) (S l).args.start
+    RunsOut (T l) (steps_over (T l) (looking_back (T l)) backward) (take (I l) (W l)) (S l).args.from (state backward (set_words (W l) (I l) (S l).args.with)) (S l).args.start
     which l.loop.slot (remembered backward l) made k
 stopped backward d s =
     let l = d.before in
-    let z = slot-tries (T l) backward (W l) (I l) (short l) (inside l) _ _ (in_size d) in
+    let z = slot_tries (T l) backward (W l) (I l) (short l) (inside l) _ _ (in_size d) in
     record {
       reached = l.loop.counts;
       comes = l.loop.inv.1 backward;
       stops = record {
-        inside = in-choices (T l) (lookingBack (T l)) backward (W l) (I l) (short l) (inside l) _ l.loop.set (in_size d);
+        inside = in_choices (T l) (looking_back (T l)) backward (W l) (I l) (short l) (inside l) _ l.loop.set (in_size d);
         events = trial (I l) l.loop.slot ∷ (whole l).checks;
         plan = z.0;
         choice = z.1;
@@ -212,13 +212,13 @@ after-boats c =
     let l = slots b in
     ⊎_elim
     (λ w.
-    let z = looks-end (short l) (none_left (T l) (W l) (I l) (short l) b.boats.invariant.links w.0.taken b.boats.invariant.looking) (le_refl _) in
+    let z = looks_end (short l) (none_left (T l) (W l) (I l) (short l) b.boats.invariant.links w.0.taken b.boats.invariant.looking) (le_refl _) in
     (rw w.1 z.1, (λ _. z.0), (λ n. absurd (n w.2))))
     (λ w.
     let left = w.0.left in
     let n = there b left in
     let named_here : c.if1.failing ≡ n.boat = w.9 ∙ named b left in
-    let z = looks-forbidden (short l) (looking-there b left) n.below _ _ (looked b left _ w.4.ensures) w.6.given.1 in (
+    let z = looks_forbidden (short l) (looking_there b left) n.below _ _ (looked b left _ w.4.ensures) w.6.given.1 in (
       rw w.8 z.1,
       (λ e. absurd (omega (arith, e, named_here, n.below))),
       (λ _. (omega (arith, named_here, n.below), rw named_here z.0)),
@@ -247,7 +247,7 @@ shared-slice-read-end : tie.Need-shared-slice-read-end invariant-boats decreases
 shared-slice-read-end c = let s = entry c.before.before in omega (arith, few s, s.pre.0.room)
 
 loop-holds : tie.Need-loop-init invariant-boats decreases-boats invariant-loop decreases-loop
-loop-holds c = let s = entry c.before.before in (s.pre.1.1, (λ backward. come-here _ _ s.pre.0.fits))
+loop-holds c = let s = entry c.before.before in (s.pre.1.1, (λ backward. come_here _ _ s.pre.0.fits))
 
 trial-requires : tie.Need-trial-requires invariant-boats decreases-boats invariant-loop decreases-loop
 trial-requires c κs = search rules
@@ -264,7 +264,7 @@ returns c backward =
     let l = d.before in
     record {
       below = l.loop.invariant.0;
-      ends = stopped backward d (trial-stops _ (l.loop.invariant.1 backward).makes.fits _ _ _ (sym c.before.before.trial.ensures ∙ c.enum_told.given.1));
+      ends = stopped backward d (trial_stops _ (l.loop.invariant.1 backward).makes.fits _ _ _ (sym c.before.before.trial.ensures ∙ c.enum_told.given.1));
     }
 
 boats-holds : tie.Need-boats-init invariant-boats decreases-boats invariant-loop decreases-loop
@@ -273,17 +273,17 @@ boats-holds c =
     record {
       h = 0;
       links = (S l).pre.1.0.linked.links (I l) (inside l);
-      looking = looks-begin (T l) (W l) (I l) l.loop.slot 0 _ (at-trial c).ranges;
+      looking = looks_begin (T l) (W l) (I l) l.loop.slot 0 _ (at_trial c).ranges;
     }
 
 add-link : tie.Need-overflow-add-link invariant-boats decreases-boats invariant-loop decreases-loop
-add-link c = omega (arith, few-links (slots c.before), c.if1.false)
+add-link c = omega (arith, few_links (slots c.before), c.if1.false)
 
 mul-link : tie.Need-overflow-mul-link invariant-boats decreases-boats invariant-loop decreases-loop
-mul-link c = omega (arith, few-links (slots c.before), c.if1.false)
+mul-link c = omega (arith, few_links (slots c.before), c.if1.false)
 
 shared-slice-read-link : tie.Need-shared-slice-read-link invariant-boats decreases-boats invariant-loop decreases-loop
-shared-slice-read-link c = let l = slots c.before.before in omega (arith, few-links l, c.before.if1.false, (S l).pre.0.room)
+shared-slice-read-link c = let l = slots c.before.before in omega (arith, few_links l, c.before.if1.false, (S l).pre.0.room)
 
 mul-row : tie.Need-overflow-mul-row invariant-boats decreases-boats invariant-loop decreases-loop
 mul-row c = omega arith
@@ -304,7 +304,7 @@ check-row-requires : tie.Need-check-row-requires invariant-boats decreases-boats
 check-row-requires c κs =
     let d = tried c.before.before.before.before.before in
     let l = d.before in
-    omega (arith, (S l).pre.0.sane.fewSlots (I l) (inside l), in_size d)
+    omega (arith, (S l).pre.0.sane.few_slots (I l) (inside l), in_size d)
 
 enum-known-k-2 : tie.Need-enum-known-k-2 invariant-boats decreases-boats invariant-loop decreases-loop
 enum-known-k-2 c = search rules
@@ -324,27 +324,27 @@ at_out c =
     let b = looking d in
     let l = slots b in
     let left = d.before.before.before.before.if1.false in
-    looks-out (short l) (looking-there b left) (there b left).below (sym (looked b left _ d.check-row.ensures) ∙ c.enum-told2.given.1)
+    looks_out (short l) (looking_there b left) (there b left).below (sym (looked b left _ d.check-row.ensures) ∙ c.enum-told2.given.1)
 
-returns-2 : tie.Need-returns-2 invariant-boats decreases-boats invariant-loop decreases-loop
-returns-2 c backward =
+returns_2 : tie.Need-returns-2 invariant-boats decreases-boats invariant-loop decreases-loop
+returns_2 c backward =
     let k = c.before in
     let b = looking k.before.before in
-    record { below = (slots b).loop.inv.0; ends = stopped backward (tried b.before) (stops-behind (at-trial b.before) (at_out k)) }
+    record { below = (slots b).loop.inv.0; ends = stopped backward (tried b.before) (stops_behind (at_trial b.before) (at_out k)) }
 
 sub-made : tie.Need-overflow-sub-made invariant-boats decreases-boats invariant-loop decreases-loop
-sub-made c = omega (arith, checks-made (at_out c.before).makes)
+sub-made c = omega (arith, checks_made (at_out c.before).makes)
 
 add-made : tie.Need-overflow-add-made invariant-boats decreases-boats invariant-loop decreases-loop
 add-made c =
     let k = c.before in
     let l = slots (looking k.before.before) in
-    omega (arith, few (S l), looks-made-few (T l) (W l) (I l) l.loop.slot 0 (short l) (at_out k))
+    omega (arith, few (S l), looks_made_few (T l) (W l) (I l) l.loop.slot 0 (short l) (at_out k))
 
 add_at : tie.Need-overflow-add-at invariant-boats decreases-boats invariant-loop decreases-loop
 add_at c =
     let d = c.before.before.before in
-    omega (arith, few-links (slots (looking d)), d.before.before.before.before.if1.false)
+    omega (arith, few_links (slots (looking d)), d.before.before.before.before.if1.false)
 
 boats-less : tie.Need-boats-smaller invariant-boats decreases-boats invariant-loop decreases-loop
 boats-less c = search rules
@@ -359,7 +359,7 @@ boats-again c =
     record {
       h = n.boat + 1;
       links = rw (add-one, add-one) n.rest;
-      looking = looks-allowed (short l) (looking-there b left) n.below _ _ (looked b left _ d.check-row.ensures) c.before.k2.given.1;
+      looking = looks_allowed (short l) (looking_there b left) n.below _ _ (looked b left _ d.check-row.ensures) c.before.k2.given.1;
     }
 
 returns-3 : tie.Need-returns-3 invariant-boats decreases-boats invariant-loop decreases-loop
@@ -370,12 +370,12 @@ returns-3 c backward =
     record {
       below = l.loop.inv.0;
       ends = record {
-        inside = in-choices (T l) (lookingBack (T l)) backward (W l) (I l) (short l) (inside l) _ l.loop.set (in_size d);
+        inside = in_choices (T l) (looking_back (T l)) backward (W l) (I l) (short l) (inside l) _ l.loop.set (in_size d);
         remembered = remembered backward l;
         reached = l.loop.counts;
         comes = l.loop.inv.1 backward;
         events = trial (I l) l.loop.slot ∷ (whole l).checks;
-        steps = slot-passes (T l) backward (W l) (I l) (short l) (inside l) _ _ (in_size d) (z.1 c.if2.true);
+        steps = slot_passes (T l) backward (W l) (I l) (short l) (inside l) _ _ (in_size d) (z.1 c.if2.true);
         makes = all_made c.before.before z.0;
       };
     }
@@ -398,8 +398,8 @@ loop-again c =
       c.with-member.ensures.below (I l) f.0 l.loop.inv.0,
       (λ backward.
           rw add-one
-          (come-more (T l) _ (l.loop.inv.1 backward)
-          (slot-fails (T l) backward (W l) (I l) (short l) (inside l) _ _ (in_size d) _ _ f.1 c.with-member.ensures) (all_made c.before.before.before z.0))),
+          (come_more (T l) _ (l.loop.inv.1 backward)
+          (slot_fails (T l) backward (W l) (I l) (short l) (inside l) _ _ (in_size d) _ _ f.1 c.with-member.ensures) (all_made c.before.before.before z.0))),
     )
 
 returns-4 : tie.Need-returns-4 invariant-boats decreases-boats invariant-loop decreases-loop
@@ -407,7 +407,7 @@ returns-4 c backward =
     let l = c.before in
     record {
       below = l.loop.invariant.0;
-      ends = record { last = l.loop.slot; none = rw (length-take-le (I l) (W l) (short l), choices-size (T l) (I l)) (omega (arith, l.before.before.before.type_size.ensures.0)); comes = l.loop.invariant.1 backward };
+      ends = record { last = l.loop.slot; none = rw (length-take-le (I l) (W l) (short l), choices_size (T l) (I l)) (omega (arith, l.before.before.before.type_size.ensures.0)); comes = l.loop.invariant.1 backward };
     }
 
 pub visit-spec : {M : Type 1} → statement M
@@ -445,7 +445,7 @@ visit-spec =
     enum-told-2
     sub-made
     add-made
-    returns-2
+    returns_2
     add_at
     boats-less
     boats-again

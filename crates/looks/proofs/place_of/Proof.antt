@@ -6,14 +6,14 @@ use Prim.Native.Nat.{ℕ, ◌-◌, ◌≤◌, ◌<◌}
 use borrow.Author.Count.{below_more}
 use borrow.Author.Rules.{rules}
 use native.Mathlib.Omega.{arith}
-use Rattle.problem.specs.Tables.{listed, isPair, place}
-use Rattle.problem.proofs.Lowest.{lowest-here, lowest-none}
-use Rattle.problem.proofs.Places.{pair-here, pair-elsewhere}
+use Rattle.problem.specs.Tables.{listed, is_pair, place}
+use Rattle.problem.proofs.Lowest.{lowest_here, lowest_none}
+use Rattle.problem.proofs.Places.{pair_here, pair_elsewhere}
 use Rattle.looks.proofs.place_of.Statement.{statement}
 use Rattle.looks.proofs.place_of.Tie as tie
 
 abbrev invariant-loop : tie.invariant-loop
-invariant-loop pairs low high count k₀ k = (k ≤ listed pairs) × ((j : ℕ) → j < k → isPair pairs low high j ≡ false)
+invariant-loop pairs low high count k₀ k = (k ≤ listed pairs) × ((j : ℕ) → j < k → is_pair pairs low high j ≡ false)
 
 abbrev decreases-loop : tie.decreases-loop
 decreases-loop pairs low high count k₀ k = listed pairs - k
@@ -32,8 +32,8 @@ unfolding place
 returns c =
     let a = c.before.before.before.before.before.before.before.args in
     let l = c.before.before.before.before.before.loop in
-    sym (lowest-here (listed a.pairs.now) (isPair a.pairs.now a.low a.high) l.k (omega arith) l.invariant.1
-    (pair-here a.pairs.now a.low a.high l.k
+    sym (lowest_here (listed a.pairs.now) (is_pair a.pairs.now a.low a.high) l.k (omega arith) l.invariant.1
+    (pair_here a.pairs.now a.low a.high l.k
     (sym c.before.before.before.lower_of.ensures.0 ∙ c.before.before.if1.true)
     (sym c.before.higher-of.ensures.0 ∙ c.if2.true)))
 
@@ -49,18 +49,18 @@ loop-again c =
     let l = c.before.before.before.loop in (
       omega arith,
       below_more _ _ l.invariant.1
-          (pair-elsewhere a.pairs.now a.low a.high l.k
+          (pair_elsewhere a.pairs.now a.low a.high l.k
           (λ x y.
           ⊎_elim (λ w. w.2.left (w.1.ensures.0 ∙ y)) (λ w. w.left (c.before.lower_of.ensures.0 ∙ x)) c.if1.branch)),
     )
 
-returns-2 : tie.Need-returns-2 invariant-loop decreases-loop
+returns_2 : tie.Need-returns-2 invariant-loop decreases-loop
 unfolding place
-returns-2 c =
+returns_2 c =
     let a = c.before.before.before.args in
     let l = c.before.loop in
-    sym (lowest-none (listed a.pairs.now) (isPair a.pairs.now a.low a.high) (λ j h. l.invariant.1 j (omega arith)))
+    sym (lowest_none (listed a.pairs.now) (is_pair a.pairs.now a.low a.high) (λ j h. l.invariant.1 j (omega arith)))
 
 pub place-of-spec : {M : Type 1} → statement M
 place-of-spec =
-    tie.close (tie.spec invariant-loop decreases-loop loop-holds lower-of-requires higher-of-requires returns add-k loop-less loop-again returns-2)
+    tie.close (tie.spec invariant-loop decreases-loop loop-holds lower-of-requires higher-of-requires returns add-k loop-less loop-again returns_2)

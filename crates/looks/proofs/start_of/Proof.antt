@@ -4,7 +4,7 @@ use Prim.Native.Nat.{◌-◌, ◌*◌, ◌≤◌}
 use borrow.Author.Rules.{rules}
 use native.Mathlib.Omega.{arith}
 use Rattle.problem.specs.Tables.{size, lower, start}
-use Rattle.problem.proofs.Starts.{start-zero, start-next}
+use Rattle.problem.proofs.Starts.{start_zero, start_next}
 use Rattle.looks.proofs.start_of.Statement.{statement}
 use Rattle.looks.proofs.start_of.Tie as tie
 
@@ -15,7 +15,7 @@ abbrev decreases-loop : tie.decreases-loop
 decreases-loop sizes pairs pair words₀ k₀ words k = pair - k
 
 loop-holds : tie.Need-loop-init invariant-loop decreases-loop
-loop-holds c = (omega arith, omega arith, sym (start-zero _ _))
+loop-holds c = (omega arith, omega arith, sym (start_zero _ _))
 
 lower-of-requires : tie.Need-lower-of-requires invariant-loop decreases-loop
 lower-of-requires c κs = search rules
@@ -39,7 +39,7 @@ loop-again c =
     let l = c.before.before.before.loop in
     let s : c.type_size.result ≡ size a.sizes.now (lower a.pairs.now l.k) =
     c.type_size.ensures.0 ∙ ap (size a.sizes.now) c.before.lower_of.ensures.0 in
-    (omega arith, omega arith, omega (arith, start-next a.sizes.now a.pairs.now l.k, l.invariant.2))
+    (omega arith, omega arith, omega (arith, start_next a.sizes.now a.pairs.now l.k, l.invariant.2))
 
 returns : tie.Need-returns invariant-loop decreases-loop
 returns c =

@@ -6,18 +6,18 @@ use borrow.Author.Rules.{rules}
 use native.Mathlib.Omega.{arith}
 use lib.ListN.{length}
 use Rattle.events.specs.declared.Counts.{Counts}
-use Rattle.events.specs.Counts.{checkCounted}
+use Rattle.events.specs.Counts.{check_counted}
 use Rattle.visits.specs.declared.Look.TheVariants.{Allowed}
-use Rattle.visits.specs.Looks.{checkedLook}
-use Rattle.marking.specs.Looks.{lookedAt}
+use Rattle.visits.specs.Looks.{checked_look}
+use Rattle.marking.specs.Looks.{looked_at}
 use Rattle.marking.proofs.look_at.Statement.{statement}
 use Rattle.marking.proofs.look_at.Tie as tie
 
 -- an unlisted pair, and a listed one
-unlisted : (index : ℕ) (allows : Bool) (m : Counts) → index ≡ 0 → Allowed m ≡ lookedAt index allows m
-unlisted index allows m e = ap (λ (x : ℕ). lookedAt x allows m) (sym e)
+unlisted : (index : ℕ) (allows : Bool) (m : Counts) → index ≡ 0 → Allowed m ≡ looked_at index allows m
+unlisted index allows m e = ap (λ (x : ℕ). looked_at x allows m) (sym e)
 
-listed : (index : ℕ) (allows : Bool) (m : Counts) → (index ≡ 0 → ⊥) → checkedLook allows (checkCounted m) ≡ lookedAt index allows m
+listed : (index : ℕ) (allows : Bool) (m : Counts) → (index ≡ 0 → ⊥) → checked_look allows (check_counted m) ≡ looked_at index allows m
 listed zero allows m n = absurd (n refl)
 listed (suc start) allows m n = refl
 
@@ -47,9 +47,9 @@ shared-slice-read-check-row c = inside c.before
 check-row-requires : tie.Need-check-row-requires
 check-row-requires c κs = search rules
 
-returns-2 : tie.Need-returns-2
-returns-2 c = c.check-row.ensures ∙ listed _ _ _ c.before.before.if1.false
+returns_2 : tie.Need-returns-2
+returns_2 c = c.check-row.ensures ∙ listed _ _ _ c.before.before.if1.false
 
 pub look-at-spec : {M : Type 1} → statement M
 look-at-spec =
-    tie.close (tie.spec returns sub_at add_at mul-check-row shared-slice-read-check-row check-row-requires returns-2)
+    tie.close (tie.spec returns sub_at add_at mul-check-row shared-slice-read-check-row check-row-requires returns_2)

@@ -7,28 +7,28 @@ use Prim.Native.Nat.{ℕ, ◌+◌, ◌-◌, ◌≤◌, ◌<◌}
 use borrow.Author.Rules.{rules}
 use native.Mathlib.Omega.{arith}
 use lib.ListN.{length, get_or}
-use Rattle.problem.specs.Tables.{Tables, tables, isListed, bit}
+use Rattle.problem.specs.Tables.{Tables, tables, is_listed, bit}
 use Rattle.problem.specs.declared.Allowance.TheVariants.{Checks}
 use Rattle.events.specs.declared.Counts.{Counts}
 use Rattle.events.specs.Events.{trial}
 use Rattle.events.specs.Counts.{Makes, StopsIn}
-use Rattle.events.proofs.Leading.{checks-made}
-use Rattle.methods.specs.Choices.{mayStand}
+use Rattle.events.proofs.Leading.{checks_made}
+use Rattle.methods.specs.Choices.{may_stand}
 use Rattle.methods.specs.BT.{Looked}
-use Rattle.words.specs.Places.{lowAt, marks, markAt, used}
+use Rattle.words.specs.Places.{low_at, marks, mark_at, used}
 use Rattle.words.specs.Layout.{word, index_of}
-use Rattle.words.proofs.Triangle.{tri-small}
+use Rattle.words.proofs.Triangle.{tri_small}
 use Rattle.visits.specs.declared.Look.{Look}
-use Rattle.visits.proofs.Looking.{Looking, look_of, looks-begin, looks-end, looks-allowed, looks-forbidden, looks-out, looks-made-few}
-use Rattle.marking.specs.Looks.{lookedAt}
-use Rattle.marking.proofs.Indices.{index_at, index-row, looked-as}
-use Rattle.marking.proofs.Visits.{looksFrom, Come, AtSlot, few, come-first, spent, still-room, still_placed, still-indexed, slot_small, mark-inside, mark-only, tried as tried_at, skips, no-trial, no-check, passes, refuses}
+use Rattle.visits.proofs.Looking.{Looking, look_of, looks_begin, looks_end, looks_allowed, looks_forbidden, looks_out, looks_made_few}
+use Rattle.marking.specs.Looks.{looked_at}
+use Rattle.marking.proofs.Indices.{index_at, index_row, looked_as}
+use Rattle.marking.proofs.Visits.{looks_from, Come, AtSlot, few, come_first, spent, still_room, still_placed, still_indexed, slot_small, mark_inside, mark_only, tried as tried_at, skips, no_trial, no_check, passes, refuses}
 use Rattle.marking.proofs.visit.Statement.{statement}
 use Rattle.marking.proofs.visit.Tie as tie
 
 abbrev invariant-boats : tie.invariant-boats
 invariant-boats sizes pairs rows i from work size row low slot counts₀ mark tried h₀ counts h =
-    let t = tables sizes pairs rows in Looking t work i slot (looksFrom t work i slot h₀) counts₀ h counts
+    let t = tables sizes pairs rows in Looking t work i slot (looks_from t work i slot h₀) counts₀ h counts
 
 abbrev decreases-boats : tie.decreases-boats
 decreases-boats sizes pairs rows i from work size row low slot counts₀ mark tried h₀ counts h = i - h
@@ -90,16 +90,16 @@ module _ (d : Turn) where
   at_slot =
       record { stands = (S d.before).pre.0; come = d.before.loop.inv; has = omega (arith, d.before.before.before.before.type_size.ensures.0) }
 
-  inside : markAt (I d.before) d.before.loop.slot < used
-  inside = mark-inside at_slot
+  inside : mark_at (I d.before) d.before.loop.slot < used
+  inside = mark_inside at_slot
 
   room : used ≤ length (Now d.before)
-  room = still-room at_slot
+  room = still_room at_slot
 
 -- its trial is made
-at-trial : (c : tie.After-known-told invariant-boats decreases-boats invariant-loop decreases-loop) →
+at_trial : (c : tie.After-known-told invariant-boats decreases-boats invariant-loop decreases-loop) →
     let l = (tried c).before in Makes l.loop.counts (trial (I l) l.loop.slot ∷ []) c.before.k.given.0.0
-at-trial c = tried_at (at_slot (tried c)) _ _ c.before.before.before.trial.ensures c.before.k.given.1
+at_trial c = tried_at (at_slot (tried c)) _ _ c.before.before.before.trial.ensures c.before.k.given.1
 
 -- ---- the boats below h have been looked at
 module _ (b : Boats) where
@@ -120,28 +120,28 @@ module _ (b : Boats) where
     abbrev held : ℕ
     held = word (Now l) b.boats.h
 
-    index-inside : row + b.boats.h < marks
-    index-inside = omega (arith, l.before.before.row_at.ensures, tri-small (I l) (few (S l).pre.0), few (S l).pre.0)
+    index_inside : row + b.boats.h < marks
+    index_inside = omega (arith, l.before.before.row_at.ensures, tri_small (I l) (few (S l).pre.0), few (S l).pre.0)
 
     indexed : found ≡ index_of (T l) b.boats.h (I l)
     indexed =
-        index_at (T l) b.boats.h (I l) (Now l) row (still-indexed (at_slot (turn b)) (S l).pre.1.indexed) l.before.before.row_at.ensures below
+        index_at (T l) b.boats.h (I l) (Now l) row (still_indexed (at_slot (turn b)) (S l).pre.1.indexed) l.before.before.row_at.ensures below
         (S l).pre.0.boat
 
     row_inside : 0 < found → found - 1 + held < length (T l).rows
     row_inside =
-        index-row (T l) b.boats.h (I l) held found indexed (S l).pre.0.sane (still_placed (at_slot (turn b)) (S l).pre.1.placed b.boats.h below)
+        index_row (T l) b.boats.h (I l) held found indexed (S l).pre.0.sane (still_placed (at_slot (turn b)) (S l).pre.1.placed b.boats.h below)
 
-    looked : (r : Look) → r ≡ lookedAt found (bit (get_or (T l).rows (found - 1 + held) 0) l.loop.slot) b.boats.counts →
-        r ≡ look_of (isListed (T l).pairs b.boats.h (I l)) (mayStand (T l) b.boats.h held (I l) l.loop.slot) b.boats.counts
-    looked r e = looked-as (T l) b.boats.h (I l) held found indexed l.loop.slot b.boats.counts e
+    looked : (r : Look) → r ≡ looked_at found (bit (get_or (T l).rows (found - 1 + held) 0) l.loop.slot) b.boats.counts →
+        r ≡ look_of (is_listed (T l).pairs b.boats.h (I l)) (may_stand (T l) b.boats.h held (I l) l.loop.slot) b.boats.counts
+    looked r e = looked_as (T l) b.boats.h (I l) held found indexed l.loop.slot b.boats.counts e
 
 -- ---- what the looks come to, from the counts with the trial
 abbrev start : Boats → Counts
 start b = b.before.before.before.before.k.given.0.0
 
 abbrev whole : Boats → Looked
-whole b = let l = slots b in looksFrom (T l) (Now l) (I l) l.loop.slot (word (W l) (lowAt (I l)))
+whole b = let l = slots b in looks_from (T l) (Now l) (I l) l.loop.slot (word (W l) (low_at (I l)))
 
 -- they are over, with this boat failing, or none
 abbrev Over : Boats → Option ℕ → Counts → Type 0
@@ -155,10 +155,10 @@ after-boats c =
     let b = c.before in
     let x = b.boats.invariant in
     ⊎_elim
-    (λ w. ((λ _. rw w.1 (looks-end (short b) x w.0.taken)), (λ n. absurd (n w.2))))
+    (λ w. ((λ _. rw w.1 (looks_end (short b) x w.0.taken)), (λ n. absurd (n w.2))))
     (λ w. (
       (λ e. absurd (omega (arith, e, w.8, w.0.left))),
-      (λ _. rw (w.7, w.8) (looks-forbidden (short b) x w.0.left _ _ (looked b w.0.left _ w.3.ensures) w.5.given.1)),
+      (λ _. rw (w.7, w.8) (looks_forbidden (short b) x w.0.left _ _ (looked b w.0.left _ w.3.ensures) w.5.given.1)),
     ))
     c.if2.branch
 
@@ -174,7 +174,7 @@ module _ (c : tie.After-enum-told2 invariant-boats decreases-boats invariant-loo
   at_out =
       let b = boats look in
       let below = look.before.before.before.if2.left in
-      looks-out (short b) b.boats.inv below (sym (looked b below _ look.look_at.ensures) ∙ c.enum-told2.given.1)
+      looks_out (short b) b.boats.inv below (sym (looked b below _ look.look_at.ensures) ∙ c.enum-told2.given.1)
 
 size-of-requires : tie.Need-size-of-requires invariant-boats decreases-boats invariant-loop decreases-loop
 size-of-requires c κs = (entry c).requires.0.boat
@@ -192,7 +192,7 @@ slice-read-low : tie.Need-slice-read-low invariant-boats decreases-boats invaria
 slice-read-low c = let s = entry c.before.before.before in omega (arith, few s.pre.0, s.pre.0.room)
 
 loop-holds : tie.Need-loop-init invariant-boats decreases-boats invariant-loop decreases-loop
-loop-holds c = come-first (entry c.before.before.before).pre.0 _
+loop-holds c = come_first (entry c.before.before.before).pre.0 _
 
 trial-requires : tie.Need-trial-requires invariant-boats decreases-boats invariant-loop decreases-loop
 trial-requires c κs = search rules
@@ -209,7 +209,7 @@ same_length c = c.before.before.before.before.loop.invariant.only.long
 returns : tie.Need-returns invariant-boats decreases-boats invariant-loop decreases-loop
 returns c =
     let d = c.before.before.before in
-    (no-trial (at_slot d) _ c.before.before.trial.ensures c.enum_told.given.1, d.before.loop.invariant.only)
+    (no_trial (at_slot d) _ c.before.before.trial.ensures c.enum_told.given.1, d.before.loop.invariant.only)
 
 mul-mark : tie.Need-overflow-mul-mark invariant-boats decreases-boats invariant-loop decreases-loop
 mul-mark c = omega (arith, inside (tried c))
@@ -227,16 +227,16 @@ slice-read-if1 : tie.Need-slice-read-if1 invariant-boats decreases-boats invaria
 slice-read-if1 c = let d = tried c.before in omega (arith, inside d, room d)
 
 boats-holds : tie.Need-boats-init invariant-boats decreases-boats invariant-loop decreases-loop
-boats-holds c = looks-begin _ _ _ _ _ _ (at-trial c.before.before).fits
+boats-holds c = looks_begin _ _ _ _ _ _ (at_trial c.before.before).fits
 
 add-look-at : tie.Need-overflow-add-look-at invariant-boats decreases-boats invariant-loop decreases-loop
-add-look-at c = omega (arith, index-inside c.before c.if2.false)
+add-look-at c = omega (arith, index_inside c.before c.if2.false)
 
 mul-look-at : tie.Need-overflow-mul-look-at invariant-boats decreases-boats invariant-loop decreases-loop
-mul-look-at c = omega (arith, index-inside c.before c.if2.false)
+mul-look-at c = omega (arith, index_inside c.before c.if2.false)
 
 slice-read-look-at : tie.Need-slice-read-look-at invariant-boats decreases-boats invariant-loop decreases-loop
-slice-read-look-at c = let b = c.before.before in omega (arith, index-inside b c.before.if2.false, room (turn b))
+slice-read-look-at c = let b = c.before.before in omega (arith, index_inside b c.before.if2.false, room (turn b))
 
 mul-look-at-2 : tie.Need-overflow-mul-look-at-2 invariant-boats decreases-boats invariant-loop decreases-loop
 mul-look-at-2 c = omega (arith, few (S (slots c.before.before)).pre.0)
@@ -257,21 +257,21 @@ enum-told-2 : tie.Need-enum-told-2 invariant-boats decreases-boats invariant-loo
 enum-told-2 c = search rules
 
 sub-made : tie.Need-overflow-sub-made invariant-boats decreases-boats invariant-loop decreases-loop
-sub-made c = omega (arith, checks-made (at_out c.before).makes)
+sub-made c = omega (arith, checks_made (at_out c.before).makes)
 
 add-made : tie.Need-overflow-add-made invariant-boats decreases-boats invariant-loop decreases-loop
 add-made c =
     let b = boats (look c.before) in
     let l = slots b in
-    omega (arith, few (S l).pre.0, looks-made-few (T l) (Now l) (I l) l.loop.slot (word (W l) (lowAt (I l))) (short b) (at_out c.before))
+    omega (arith, few (S l).pre.0, looks_made_few (T l) (Now l) (I l) l.loop.slot (word (W l) (low_at (I l))) (short b) (at_out c.before))
 
 same-length-2 : tie.Need-same-length-2 invariant-boats decreases-boats invariant-loop decreases-loop
 same-length-2 c = (slots (boats (look c.before))).loop.inv.only.long
 
-returns-2 : tie.Need-returns-2 invariant-boats decreases-boats invariant-loop decreases-loop
-returns-2 c =
+returns_2 : tie.Need-returns-2 invariant-boats decreases-boats invariant-loop decreases-loop
+returns_2 c =
     let b = boats (look c.before) in
-    (no-check (at_slot (turn b)) b.before.if1.taken (at-trial b.before.before.before) (at_out c.before), (slots b).loop.inv.only)
+    (no_check (at_slot (turn b)) b.before.if1.taken (at_trial b.before.before.before) (at_out c.before), (slots b).loop.inv.only)
 
 add-h : tie.Need-overflow-add-h invariant-boats decreases-boats invariant-loop decreases-loop
 add-h c = omega (arith, few (S (slots (boats c.before.before.before))).pre.0)
@@ -284,7 +284,7 @@ boats-again c =
     let d = c.before.before.before in
     let b = boats d in
     let below = d.before.before.before.if2.false in
-    looks-allowed (short b) b.boats.inv below _ _ (looked b below _ d.look_at.ensures) c.before.k2.given.1
+    looks_allowed (short b) b.boats.inv below _ _ (looked b below _ d.look_at.ensures) c.before.k2.given.1
 
 boat-before-requires : tie.Need-boat-before-requires invariant-boats decreases-boats invariant-loop decreases-loop
 boat-before-requires c κs = search rules
@@ -296,14 +296,14 @@ slice-write-work : tie.Need-slice-write-work invariant-boats decreases-boats inv
 slice-write-work c = let d = turn c.before.before.before in omega (arith, inside d, room d)
 
 same-length-3 : tie.Need-same-length-3 invariant-boats decreases-boats invariant-loop decreases-loop
-same-length-3 c = (mark-only (at_slot (turn c.before.before.before)) _).long
+same-length-3 c = (mark_only (at_slot (turn c.before.before.before)) _).long
 
 returns-3 : tie.Need-returns-3 invariant-boats decreases-boats invariant-loop decreases-loop
 returns-3 c =
     let j = c.before.before in
     let looks = j.before.before in
     let x = at_slot (turn j.before) in
-    (passes x looks.if1.true (at-trial looks.before.before) _ c.boat-before.ensures ((after-boats j).0 c.before.if3.true), mark-only x _)
+    (passes x looks.if1.true (at_trial looks.before.before) _ c.boat-before.ensures ((after-boats j).0 c.before.if3.true), mark_only x _)
 
 mul-work-2 : tie.Need-overflow-mul-work-2 invariant-boats decreases-boats invariant-loop decreases-loop
 mul-work-2 c = omega (arith, inside (turn c.before.before))
@@ -324,7 +324,7 @@ loop-again c =
     ⊎_elim
     (λ w.
     let j : tie.Joined2 invariant-boats decreases-boats invariant-loop decreases-loop = record { before = record { before = record { before = c.before; if1 = w.0 }; boats = w.1 }; if2 = w.2 } in
-    rw (w.4, w.5) (refuses x w.0.taken (at-trial k) _ ((after-boats j).1 w.3.left)))
+    rw (w.4, w.5) (refuses x w.0.taken (at_trial k) _ ((after-boats j).1 w.3.left)))
     (λ w. rw (w.1, w.2) (skips x _ _ k.before.before.before.trial.ensures k.before.k.given.1 w.0.left))
     c.if1.branch
 
@@ -373,7 +373,7 @@ visit-spec =
     sub-made
     add-made
     same-length-2
-    returns-2
+    returns_2
     add-h
     boats-less
     boats-again

@@ -5,11 +5,11 @@ use Prim.Native.Nat.{ℕ, ◌-◌, ◌≤◌, ◌<◌}
 use borrow.Author.Rules.{rules}
 use native.Mathlib.Omega.{arith}
 use lib.ListN.{length, set, length-set}
-use Rattle.words.specs.Places.{lowAt}
+use Rattle.words.specs.Places.{low_at}
 use Rattle.words.specs.Layout.{ChangedOnly}
 use Rattle.methods.specs.BM.{lowered}
-use Rattle.marks.specs.Marks.{marksOf}
-use Rattle.marks.proofs.Lowering.{Lowering, lowering-none, lowering-set, lowering-ends, lowering-only, lowering-all}
+use Rattle.marks.specs.Marks.{marks_of}
+use Rattle.marks.proofs.Lowering.{Lowering, lowering_none, lowering_set, lowering_ends, lowering_only, lowering_all}
 use Rattle.marks.proofs.lower.Statement.{statement}
 use Rattle.marks.proofs.lower.Tie as tie
 
@@ -39,13 +39,13 @@ same l = l.loop.inv.2.only.long ∙ simp length-set
 -- all that is promised, once no later boat is left
 done : (l : Later) →
     let a = (entry l).args in
-    Lowering a.i a.h a.n (set (W l) (lowAt a.i) a.h) (Now l) →
-    (marksOf (Now l) ≡ lowered (marksOf (W l)) a.i a.h) × ChangedOnly (lowAt a.i) (lowAt a.n) (W l) (Now l)
+    Lowering a.i a.h a.n (set (W l) (low_at a.i) a.h) (Now l) →
+    (marks_of (Now l) ≡ lowered (marks_of (W l)) a.i a.h) × ChangedOnly (low_at a.i) (low_at a.n) (W l) (Now l)
 done l y =
     let a = (entry l).args in
     let p = (entry l).pre in (
-      lowering-all a.n a.i a.h (W l) (Now l) p.0.0 y p.0.1 (omega (arith, p.0)) p.1.0,
-      lowering-only a.n a.i a.h (W l) (Now l) p.0.0 y,
+      lowering_all a.n a.i a.h (W l) (Now l) p.0.0 y p.0.1 (omega (arith, p.0)) p.1.0,
+      lowering_only a.n a.i a.h (W l) (Now l) p.0.0 y,
     )
 
 add-work : tie.Need-overflow-add-work invariant-loop decreases-loop
@@ -61,7 +61,7 @@ add-j : tie.Need-overflow-add-j invariant-loop decreases-loop
 add-j c = search rules
 
 loop-holds : tie.Need-loop-init invariant-loop decreases-loop
-loop-holds c = (omega arith, omega arith, lowering-none _ _ _)
+loop-holds c = (omega arith, omega arith, lowering_none _ _ _)
 
 add-if1 : tie.Need-overflow-add-if1 invariant-loop decreases-loop
 add-if1 c = search rules
@@ -80,7 +80,7 @@ returns c =
     let l = c.before.before.before in
     let x = l.loop.invariant in
     let p = (entry l).requires in
-    done l (lowering-ends _ _ _ _ (W l) _ x.0 x.1 p.0.1 p.1.1 x.2 c.if1.true)
+    done l (lowering_ends _ _ _ _ (W l) _ x.0 x.1 p.0.1 p.1.1 x.2 c.if1.true)
 
 add-work-2 : tie.Need-overflow-add-work-2 invariant-loop decreases-loop
 add-work-2 c = search rules
@@ -101,18 +101,18 @@ loop-again : tie.Need-loop-preserved invariant-loop decreases-loop
 loop-again c =
     let l = c.before.before.before in
     let x = l.loop.invariant in
-    (omega arith, omega arith, lowering-set _ _ _ _ _ x.0 x.2 c.if1.false (omega (arith, same l, (entry l).requires)))
+    (omega arith, omega arith, lowering_set _ _ _ _ _ x.0 x.2 c.if1.false (omega (arith, same l, (entry l).requires)))
 
 same-length-2 : tie.Need-same-length-2 invariant-loop decreases-loop
 same-length-2 c = same c.before
 
-returns-2 : tie.Need-returns-2 invariant-loop decreases-loop
-returns-2 c =
+returns_2 : tie.Need-returns-2 invariant-loop decreases-loop
+returns_2 c =
     let l = c.before in
     let x = l.loop.invariant in
     let a = (entry l).args in
     let e : l.loop.j ≡ a.n = omega arith in
-    done l (subst (λ (j : ℕ). Lowering a.i a.h j (set (W l) (lowAt a.i) a.h) (Now l)) e x.2)
+    done l (subst (λ (j : ℕ). Lowering a.i a.h j (set (W l) (low_at a.i) a.h) (Now l)) e x.2)
 
 pub lower_spec : {M : Type 1} → statement M
 lower_spec =
@@ -137,4 +137,4 @@ lower_spec =
     loop-less
     loop-again
     same-length-2
-    returns-2)
+    returns_2)

@@ -23,8 +23,8 @@ enum-told-5 c = search rules
 returns : tie.Need-returns
 returns c = ap moves_of (sym c.enum_told.given.1)
 
-returns-2 : tie.Need-returns-2
-returns-2 c = ap moves_of (sym c.enum-told2.given.1)
+returns_2 : tie.Need-returns-2
+returns_2 c = ap moves_of (sym c.enum-told2.given.1)
 
 returns-3 : tie.Need-returns-3
 returns-3 c = ap moves_of (sym c.enum-told3.given.1)
@@ -45,7 +45,7 @@ moves-of-spec =
     enum-told-4
     enum-told-5
     returns
-    returns-2
+    returns_2
     returns-3
     returns-4
     returns-5)

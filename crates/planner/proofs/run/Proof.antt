@@ -5,12 +5,12 @@ use Prim.Native.Nat.{ℕ}
 use native.Mathlib.Omega.{arith}
 use lib.ListN.{length}
 use Rattle.problem.specs.Tables.{Tables, tables}
-use Rattle.problem.specs.Methods.{methodOf}
+use Rattle.problem.specs.Methods.{method_numbered}
 use Rattle.problem.specs.declared.Method.{Method}
 use Rattle.problem.specs.declared.MethodFound.TheVariants.{Found}
 use Rattle.problem.specs.declared.Reply.{Reply}
-use Rattle.runs.specs.Runs.{result_of, runResult}
-use Rattle.runs.proofs.Refusing.{found-fine, found-refused, says-1, says-examined, result-refused, result-lent}
+use Rattle.runs.specs.Runs.{result_of, run_result}
+use Rattle.runs.proofs.Refusing.{found_fine, found_refused, says_1, says_examined, result_refused, result_lent}
 use borrow.Author.Rules.{rules}
 use Rattle.planner.proofs.run.Statement.{statement}
 use Rattle.planner.proofs.run.Tie as tie
@@ -25,13 +25,13 @@ T s = tables s.args.sizes.now s.args.pairs.now s.args.rows.now
 abbrev plan_of : tie.Start → List ℕ
 plan_of s = s.args.plan.now
 
-abbrev workOf : tie.Start → List ℕ
-workOf s = s.args.work.now
+abbrev work_of : tie.Start → List ℕ
+work_of s = s.args.work.now
 
 -- a refusal, and nothing changed
-refuses : (s : tie.Start) {r x : Reply} → r ≡ x → runResult s.args.method (T s) (plan_of s) (workOf s) s.args.checks s.args.trials ≡ result_of x (plan_of s) (workOf s) →
-    result_of r (plan_of s) (workOf s) ≡ runResult s.args.method (T s) (plan_of s) (workOf s) s.args.checks s.args.trials
-refuses s e f = ap (λ (y : Reply). result_of y (plan_of s) (workOf s)) e ∙ sym f
+refuses : (s : tie.Start) {r x : Reply} → r ≡ x → run_result s.args.method (T s) (plan_of s) (work_of s) s.args.checks s.args.trials ≡ result_of x (plan_of s) (work_of s) →
+    result_of r (plan_of s) (work_of s) ≡ run_result s.args.method (T s) (plan_of s) (work_of s) s.args.checks s.args.trials
+refuses s e f = ap (λ (y : Reply). result_of y (plan_of s) (work_of s)) e ∙ sym f
 
 -- ---- the method is known
 module _ (k : tie.After-known-told) where
@@ -41,7 +41,7 @@ module _ (k : tie.After-known-told) where
   abbrev chosen : Method
   chosen = k.before.named.given.0.0
 
-  known : methodOf begin.args.method ≡ Found chosen
+  known : method_numbered begin.args.method ≡ Found chosen
   known = sym k.before.before.before.method-of.ensures ∙ k.before.named.given.1
 
 method-of-requires : tie.Need-method-of-requires
@@ -61,8 +61,8 @@ returns c =
     let w = c.before.before.before in
     let s = entry w in
     refuses s c.refused.ensures
-    (result-refused s.args.method (T s) (plan_of s) (workOf s) s.args.checks s.args.trials
-    (says-1 s.args.method (T s) (length (plan_of s)) (length (workOf s)) (sym w.method-of.ensures ∙ c.before.enum_told.given.1)) (omega arith))
+    (result_refused s.args.method (T s) (plan_of s) (work_of s) s.args.checks s.args.trials
+    (says_1 s.args.method (T s) (length (plan_of s)) (length (work_of s)) (sym w.method-of.ensures ∙ c.before.enum_told.given.1)) (omega arith))
 
 examine-requires : tie.Need-examine-requires
 examine-requires c κs = search rules
@@ -77,7 +77,7 @@ run-fine-requires : tie.Need-run-fine-requires
 run-fine-requires c κs =
     let f = c.before.before in
     let e = f.before.before in
-    found-fine (T (begin e.before)) e.examine.ensures f.enum-told2.given.1
+    found_fine (T (begin e.before)) e.examine.ensures f.enum-told2.given.1
 
 same_length : tie.Need-same-length
 same_length c = search rules
@@ -85,15 +85,15 @@ same_length c = search rules
 same-length-2 : tie.Need-same-length-2
 same-length-2 c = search rules
 
-returns-2 : tie.Need-returns-2
-returns-2 c =
+returns_2 : tie.Need-returns-2
+returns_2 c =
     let r = c.before.before.before.before in
     let f = r.before.before.before in
     let e = f.before.before in
     let k = e.before in
     let s = begin k in
     r.run-fine.ensures
-    ∙ result-lent s.args.method (T s) (plan_of s) (workOf s) s.args.checks s.args.trials (chosen k) (known k) (found-fine (T s) e.examine.ensures f.enum-told2.given.1)
+    ∙ result_lent s.args.method (T s) (plan_of s) (work_of s) s.args.checks s.args.trials (chosen k) (known k) (found_fine (T s) e.examine.ensures f.enum-told2.given.1)
 
 refused-requires-2 : tie.Need-refused-requires-2
 refused-requires-2 c κs = search rules
@@ -105,8 +105,8 @@ returns-3 c =
     let k = e.before in
     let s = begin k in
     refuses s c.refused2.ensures
-    (result-refused s.args.method (T s) (plan_of s) (workOf s) s.args.checks s.args.trials
-    (says-examined s.args.method (T s) (length (plan_of s)) (length (workOf s)) (chosen k) (known k) (found-refused (T s) e.examine.ensures x.examined.given.1) (omega arith)) (omega arith))
+    (result_refused s.args.method (T s) (plan_of s) (work_of s) s.args.checks s.args.trials
+    (says_examined s.args.method (T s) (length (plan_of s)) (length (work_of s)) (chosen k) (known k) (found_refused (T s) e.examine.ensures x.examined.given.1) (omega arith)) (omega arith))
 
 pub run_spec : {M : Type 1} → statement M
 run_spec =
@@ -123,6 +123,6 @@ run_spec =
     run-fine-requires
     same_length
     same-length-2
-    returns-2
+    returns_2
     refused-requires-2
     returns-3)

@@ -1,16 +1,16 @@
 -- Each refusal in turn.
 use mathlib.Core.Path.{◌≡◌, sym, ap, ◌∙◌}
 use borrow.Author.Rules.{rules}
-use Rattle.problem.specs.Replies.{refusalNumber, refusalPlace}
+use Rattle.problem.specs.Replies.{refusal_number, refusal_place}
 use Rattle.problem.specs.declared.Refusal.{Refusal}
 use Rattle.problem.specs.declared.Numbered.{Numbered}
 use Rattle.problem.proofs.number_of.Statement.{statement}
 use Rattle.problem.proofs.number_of.Tie as tie
 
 -- the number and the place of a refusal that is known
-known : (why one : Refusal) (r : Numbered) → why ≡ one → (r.number ≡ refusalNumber one) × (r.place ≡ refusalPlace one)
-    → (r.number ≡ refusalNumber why) × (r.place ≡ refusalPlace why)
-known why one r e q = (q.0 ∙ ap (λ (w : Refusal). refusalNumber w) (sym e), q.1 ∙ ap (λ (w : Refusal). refusalPlace w) (sym e))
+known : (why one : Refusal) (r : Numbered) → why ≡ one → (r.number ≡ refusal_number one) × (r.place ≡ refusal_place one)
+    → (r.number ≡ refusal_number why) × (r.place ≡ refusal_place why)
+known why one r e q = (q.0 ∙ ap (λ (w : Refusal). refusal_number w) (sym e), q.1 ∙ ap (λ (w : Refusal). refusal_place w) (sym e))
 
 enum_told : tie.Need-enum-told
 enum_told c = search rules
@@ -135,8 +135,8 @@ at-requires-20 c κs = search rules
 returns : tie.Need-returns
 returns c = known _ _ _ c.before.enum_told.given.1 c.at.ensures
 
-returns-2 : tie.Need-returns-2
-returns-2 c = known _ _ _ c.before.enum-told2.given.1 c.at2.ensures
+returns_2 : tie.Need-returns-2
+returns_2 c = known _ _ _ c.before.enum-told2.given.1 c.at2.ensures
 
 returns-3 : tie.Need-returns-3
 returns-3 c = known _ _ _ c.before.before.why.given.1 c.at3.ensures
@@ -237,7 +237,7 @@ number-of-spec =
     enum-told-8
     at-requires-20
     returns
-    returns-2
+    returns_2
     returns-3
     returns-4
     returns-5

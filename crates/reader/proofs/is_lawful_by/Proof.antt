@@ -4,14 +4,14 @@ use borrow.Author.Rules.{rules}
 use native.Mathlib.Omega.{arith}
 use Prim.Native.Nat.{◌*◌, ◌≤◌}
 use lib.ListN.{length}
-use Rattle.questions.specs.Questions.{lawfulQuestion}
-use Rattle.questions.specs.Replies.{judgedTold}
+use Rattle.questions.specs.Questions.{lawful_question}
+use Rattle.questions.specs.Replies.{judged_told}
 use Rattle.scanning.specs.declared.Contents.{Contents}
 use Rattle.files.specs.Reading.{reading}
 use Rattle.files.specs.Rooms.{Rooms, rooms}
-use Rattle.files.specs.Reader.{deskResult}
+use Rattle.files.specs.Reader.{desk_result}
 use Rattle.loading.specs.Loading.{found}
-use Rattle.reader.proofs.Reader.{refused-loaded, Standing, standing, all_there, asked}
+use Rattle.reader.proofs.Reader.{refused_loaded, Standing, standing, all_there, asked}
 use Rattle.reader.proofs.is_lawful_by.Statement.{statement}
 use Rattle.reader.proofs.is_lawful_by.Tie as tie
 
@@ -64,11 +64,11 @@ same-length-3 : tie.Need-same-length-3
 same-length-3 c = search rules
 
 returns : tie.Need-returns
-unfolding deskResult
+unfolding desk_result
 returns c =
     let d = c.before.before.before.before.before.before.before.before.before in
     let a = d.before.before.before.before.before.before.before.before.before.args in
-    let e = refused-loaded (λ t. lawfulQuestion t a.plan.now) (reading a.file.now) (lent d) c.before.contents.given.0.0 (left d)
+    let e = refused_loaded (λ t. lawful_question t a.plan.now) (reading a.file.now) (lent d) c.before.contents.given.0.0 (left d)
     (sym (ap (λ (r : Contents). found r (left d)) c.before.contents.given.1) ∙ d.load.ensures) in
     (ap (λ x. x.answer) e, ap (λ x. x.rooms) e)
 
@@ -81,12 +81,12 @@ same-length-5 c = search rules
 same-length-6 : tie.Need-same-length-6
 same-length-6 c = search rules
 
-returns-2 : tie.Need-returns-2
-unfolding deskResult
-returns-2 c =
+returns_2 : tie.Need-returns-2
+unfolding desk_result
+returns_2 c =
     let d = c.before.before.before.before.before.before in
     let a = d.before.before.before.before.before.before.before.before.before.before.before.before.before.before.before.before.before.args in
-    let e = asked _ _ _ _ _ _ (stands d) (λ t. lawfulQuestion t a.plan.now) (judgedTold c.judged.result) c.judged.ensures in
+    let e = asked _ _ _ _ _ _ (stands d) (λ t. lawful_question t a.plan.now) (judged_told c.judged.result) c.judged.ensures in
     (ap (λ x. x.answer) e, ap (λ x. x.rooms) e)
 
 pub is-lawful-by-spec : {M : Type 1} → statement M
@@ -105,4 +105,4 @@ is-lawful-by-spec =
     same-length-4
     same-length-5
     same-length-6
-    returns-2)
+    returns_2)

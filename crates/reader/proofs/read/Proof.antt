@@ -5,13 +5,13 @@ use native.Mathlib.Omega.{arith}
 use Prim.Native.Nat.{◌*◌, ◌≤◌}
 use lib.ListN.{length}
 use Rattle.tables.specs.Examination.{examination}
-use Rattle.tables.specs.Replies.{examinedTold}
+use Rattle.tables.specs.Replies.{examined_told}
 use Rattle.scanning.specs.declared.Contents.{Contents}
 use Rattle.files.specs.Reading.{reading}
 use Rattle.files.specs.Rooms.{Rooms, rooms}
-use Rattle.files.specs.Reader.{readResult}
+use Rattle.files.specs.Reader.{read_result}
 use Rattle.loading.specs.Loading.{found}
-use Rattle.reader.proofs.Reader.{refused-loaded, Standing, standing, all_there, asked}
+use Rattle.reader.proofs.Reader.{refused_loaded, Standing, standing, all_there, asked}
 use Rattle.reader.proofs.read.Statement.{statement}
 use Rattle.reader.proofs.read.Tie as tie
 
@@ -64,10 +64,10 @@ same-length-3 : tie.Need-same-length-3
 same-length-3 c = search rules
 
 returns : tie.Need-returns
-unfolding readResult
+unfolding read_result
 returns c =
     let d = c.before.before.before.before.before.before.before.before.before in
-    refused-loaded examination (reading d.before.before.before.before.before.before.before.before.args.file.now) (lent d) c.before.contents.given.0.0 (left d)
+    refused_loaded examination (reading d.before.before.before.before.before.before.before.before.args.file.now) (lent d) c.before.contents.given.0.0 (left d)
     (sym (ap (λ (r : Contents). found r (left d)) c.before.contents.given.1) ∙ d.load.ensures)
 
 same-length-4 : tie.Need-same-length-4
@@ -79,11 +79,11 @@ same-length-5 c = search rules
 same-length-6 : tie.Need-same-length-6
 same-length-6 c = search rules
 
-returns-2 : tie.Need-returns-2
-unfolding readResult
-returns-2 c =
+returns_2 : tie.Need-returns-2
+unfolding read_result
+returns_2 c =
     let d = c.before.before.before.before.before.before in
-    asked _ _ _ _ _ _ (stands d) examination (examinedTold c.examined.result) c.examined.ensures
+    asked _ _ _ _ _ _ (stands d) examination (examined_told c.examined.result) c.examined.ensures
 
 pub read_spec : {M : Type 1} → statement M
 read_spec =
@@ -101,4 +101,4 @@ read_spec =
     same-length-4
     same-length-5
     same-length-6
-    returns-2)
+    returns_2)

@@ -7,7 +7,7 @@ use Prim.Native.Nat.{ℕ, ◌+◌, ◌*◌}
 use lib.ListN.{get_or, take, drop}
 use Rattle.files.specs.File.{PR, ED}
 use Rattle.files.specs.Reading.{same}
-use Rattle.scanning.proofs.Meeting.{no-mark, unknown, no_lower, no-boat, no_words, pair-met, no-count, wrong-count, more_bytes, end-met}
+use Rattle.scanning.proofs.Meeting.{no_mark, unknown, no_lower, no_boat, no_words, pair_met, no_count, wrong_count, more_bytes, end_met}
 use Rattle.scanning.proofs.meet.Statement.{statement}
 use Rattle.scanning.proofs.meet.Tie as tie
 
@@ -27,13 +27,13 @@ sub-left c = search rules
 returns : tie.Need-returns
 returns c words t s =
     let a = c.before.before.args in
-    no-mark a.file.now a.at a.boats (omega arith) (omega arith) (omega arith) t
+    no_mark a.file.now a.at a.boats (omega arith) (omega arith) (omega arith) t
 
 is-mark-requires : tie.Need-is-mark-requires
 is-mark-requires c κs = search rules
 
-returns-2 : tie.Need-returns-2
-returns-2 c words t s =
+returns_2 : tie.Need-returns-2
+returns_2 c words t s =
     let a = c.before.before.before.before.before.args in
     no_lower a.file.now a.at a.boats (omega arith) (omega arith) (omega arith) (is-pr c.before) (omega arith) t
 
@@ -49,7 +49,7 @@ add-t17 c = search rules
 returns-3 : tie.Need-returns-3
 returns-3 c words t s =
     let a = c.before.before.before.before.before.before.before.args in
-    no-boat a.file.now a.at a.boats (omega arith) (omega arith) (omega arith) (is-pr c.before.before.before) (omega arith) a.pairs words t s
+    no_boat a.file.now a.at a.boats (omega arith) (omega arith) (omega arith) (is-pr c.before.before.before) (omega arith) a.pairs words t s
     c.before.byte.result c.before.byte.ensures.0 (omega arith)
 
 add-byte-2 : tie.Need-overflow-add-byte-2
@@ -75,8 +75,8 @@ returns-5 c =
     let a = c.before.before.before.before.before.before.before.before.before.args in
     record {
       inside = omega arith;
-      goesOn = λ words t s.
-          pair-met a.file.now a.at a.boats (omega arith) (omega arith) (omega arith) (is-pr c.before.before.before.before.before) (omega arith) a.pairs words t s
+      goes_on = λ words t s.
+          pair_met a.file.now a.at a.boats (omega arith) (omega arith) (omega arith) (is-pr c.before.before.before.before.before) (omega arith) a.pairs words t s
           c.before.before.before.byte.result c.before.before.before.byte.ensures.0 (omega arith) c.before.byte2.result c.before.byte2.ensures.0 (omega arith);
     }
 
@@ -86,7 +86,7 @@ is-mark-requires-2 c κs = search rules
 returns-6 : tie.Need-returns-6
 returns-6 c words t s =
     let a = c.before.before.before.before.before.before.before.args in
-    no-count a.file.now a.at a.boats (omega arith) (omega arith) (omega arith) (no-pr c.before.before.before) (is-ed c.before) (omega arith) t
+    no_count a.file.now a.at a.boats (omega arith) (omega arith) (omega arith) (no-pr c.before.before.before) (is-ed c.before) (omega arith) t
 
 add-byte-3 : tie.Need-overflow-add-byte-3
 add-byte-3 c = search rules
@@ -119,7 +119,7 @@ add-t32 c = search rules
 returns-7 : tie.Need-returns-7
 returns-7 c words t s =
     let a = c.before.before.before.before.before.before.before.before.before.before.args in
-    wrong-count a.file.now a.at a.boats (omega arith) (omega arith) (omega arith) (no-pr c.before.before.before.before.before.before) (is-ed c.before.before.before.before) (omega arith) a.pairs words t s
+    wrong_count a.file.now a.at a.boats (omega arith) (omega arith) (omega arith) (no-pr c.before.before.before.before.before.before) (is-ed c.before.before.before.before) (omega arith) a.pairs words t s
     (counted c.before) (counted_is c.before) c.if8.true
 
 add-t34 : tie.Need-overflow-add-t34
@@ -134,7 +134,7 @@ returns-8 c words t s =
 returns-9 : tie.Need-returns-9
 returns-9 c words t s =
     let a = c.before.before.before.before.before.before.before.before.before.before.before.args in
-    end-met a.file.now a.at a.boats (omega arith) (omega arith) (omega arith) (no-pr c.before.before.before.before.before.before.before) (is-ed c.before.before.before.before.before) (omega arith) a.pairs words t s
+    end_met a.file.now a.at a.boats (omega arith) (omega arith) (omega arith) (no-pr c.before.before.before.before.before.before.before) (is-ed c.before.before.before.before.before) (omega arith) a.pairs words t s
     (counted c.before.before) (counted_is c.before.before) c.before.if8.false (omega arith)
 
 returns-10 : tie.Need-returns-10
@@ -149,7 +149,7 @@ meet-spec =
     sub-left
     returns
     is-mark-requires
-    returns-2
+    returns_2
     add-byte
     byte-requires
     add-t17

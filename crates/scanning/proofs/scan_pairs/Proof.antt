@@ -5,10 +5,10 @@ use Prim.Native.Nat.{◌-◌}
 use native.Mathlib.Omega.{arith}
 use borrow.Author.Rules.{rules}
 use lib.ListN.{length}
-use Rattle.problem.specs.Replies.{told, refusalTold}
+use Rattle.problem.specs.Replies.{told, refusal_told}
 use Rattle.problem.specs.declared.Problem.{Problem}
 use Rattle.scanning.specs.Scanning.{PairMet, Meets}
-use Rattle.scanning.proofs.Scanning.{AtMark, pass-begins, pass-steps, pass-ends, pass-faults}
+use Rattle.scanning.proofs.Scanning.{AtMark, pass_begins, pass_steps, pass_ends, pass_faults}
 use Rattle.scanning.proofs.scan_pairs.Statement.{statement}
 use Rattle.scanning.proofs.scan_pairs.Tie as tie
 
@@ -22,7 +22,7 @@ add_at : tie.Need-overflow-add-at invariant-loop decreases-loop
 add_at c = search rules
 
 loop-holds : tie.Need-loop-init invariant-loop decreases-loop
-loop-holds c = pass-begins _ _ (omega arith)
+loop-holds c = pass_begins _ _ (omega arith)
 
 meet-requires : tie.Need-meet-requires invariant-loop decreases-loop
 meet-requires c κs = (c.loop.invariant.inside, c.loop.invariant.front)
@@ -62,7 +62,7 @@ loop-again : tie.Need-loop-preserved invariant-loop decreases-loop
 loop-again c =
     let a = c.before.before.before.before.before.before.args in
     let l = c.before.before.before.before.loop in
-    pass-steps a.file.now a.boats l.at l.pairs l.words l.invariant c.before.met.given.0.0 (pair-at c.before)
+    pass_steps a.file.now a.boats l.at l.pairs l.words l.invariant c.before.met.given.0.0 (pair-at c.before)
 
 enum_told : tie.Need-enum-told invariant-loop decreases-loop
 enum_told c = search rules
@@ -76,17 +76,17 @@ returns c =
     let a = d.before.before.before.before.before.args in
     let l = d.before.before.before.loop in
     ap (λ (p : Problem). told 0 (p.boats ∷ p.pairs ∷ p.words ∷ [])) c.of.ensures
-    ∙ pass-ends a.file.now a.boats l.at l.pairs l.words l.invariant
+    ∙ pass_ends a.file.now a.boats l.at l.pairs l.words l.invariant
     (subst (Meets a.file.now a.boats l.at l.pairs) d.enum_told.given.1 d.before.before.meet.ensures)
 
 enum-known-met-2 : tie.Need-enum-known-met-2 invariant-loop decreases-loop
 enum-known-met-2 c = search rules
 
-returns-2 : tie.Need-returns-2 invariant-loop decreases-loop
-returns-2 c =
+returns_2 : tie.Need-returns-2 invariant-loop decreases-loop
+returns_2 c =
     let a = c.before.before.before.before.before.before.args in
     let l = c.before.before.before.before.loop in
-    pass-faults a.file.now a.boats l.at l.pairs l.words l.invariant (refusalTold c.before.met2.given.0.0)
+    pass_faults a.file.now a.boats l.at l.pairs l.words l.invariant (refusal_told c.before.met2.given.0.0)
     (subst (Meets a.file.now a.boats l.at l.pairs) c.before.met2.given.1 c.before.before.before.meet.ensures)
 
 pub scan-pairs-spec : {M : Type 1} → statement M
@@ -110,4 +110,4 @@ scan-pairs-spec =
     of-requires
     returns
     enum-known-met-2
-    returns-2)
+    returns_2)

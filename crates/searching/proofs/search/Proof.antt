@@ -6,7 +6,7 @@ use native.Mathlib.Omega.{arith}
 use borrow.Author.Rules.{rules}
 use lib.ListN.{length}
 use Rattle.words.specs.Layout.{word}
-use Rattle.words.proofs.Zeroed.{zeroed-at, zeroed-long, zeroed-only}
+use Rattle.words.proofs.Zeroed.{zeroed_at, zeroed_long, zeroed_only}
 use Rattle.searching.proofs.Starts.{from_start}
 use Rattle.searching.proofs.search.Statement.{statement}
 use Rattle.searching.proofs.search.Tie as tie
@@ -25,8 +25,8 @@ prepare-requires c κs =
     let w = s.args.work.now in (
       s.pre.0,
       (
-        omega (arith, ap length q.clear.ensures, zeroed-long 8192 w s.pre.1.0, s.pre.1.0),
-        (λ k lo hi. ap (λ (v : List ℕ). word v k) q.clear.ensures ∙ zeroed-at 8192 k w hi),
+        omega (arith, ap length q.clear.ensures, zeroed_long 8192 w s.pre.1.0, s.pre.1.0),
+        (λ k lo hi. ap (λ (v : List ℕ). word v k) q.clear.ensures ∙ zeroed_at 8192 k w hi),
       ),
     )
 
@@ -42,7 +42,7 @@ returns c =
     let p = v.before.before.before.before in
     let q = p.before.before.before.before in
     let s = entry q in
-    from_start _ _ _ _ _ _ _ _ (rw q.clear.ensures (zeroed-only 8192 s.args.work.now s.pre.1.0)) p.prepare.ensures v.walk.ensures
+    from_start _ _ _ _ _ _ _ _ (rw q.clear.ensures (zeroed_only 8192 s.args.work.now s.pre.1.0)) p.prepare.ensures v.walk.ensures
 
 pub search-spec : {M : Type 1} → statement M
 search-spec = tie.close (tie.spec clear-requires prepare-requires walk-requires same_length returns)

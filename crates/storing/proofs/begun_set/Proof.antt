@@ -1,7 +1,7 @@
 -- By the way back.
 use mathlib.Core.Path.{sym, ap}
 use Rattle.visits.specs.declared.Backward.{Backward}
-use Rattle.storing.specs.Stored.{begunSet}
+use Rattle.storing.specs.Stored.{set_begun_with}
 use borrow.Author.Rules.{rules}
 use Rattle.storing.proofs.begun_set.Statement.{statement}
 use Rattle.storing.proofs.begun_set.Tie as tie
@@ -22,10 +22,10 @@ shared-slice-read-result : tie.Need-shared-slice-read-result
 shared-slice-read-result c = search rules
 
 returns : tie.Need-returns
-returns c = let s = c.before.before in ap (λ (b : Backward). begunSet b s.args.work.now s.args.i) (sym c.enum_told.given.1)
+returns c = let s = c.before.before in ap (λ (b : Backward). set_begun_with b s.args.work.now s.args.i) (sym c.enum_told.given.1)
 
-returns-2 : tie.Need-returns-2
-returns-2 c = let e = c.before in let s = e.before.before in ap (λ (b : Backward). begunSet b s.args.work.now s.args.i) (sym e.enum-told2.given.1)
+returns_2 : tie.Need-returns-2
+returns_2 c = let e = c.before in let s = e.before.before in ap (λ (b : Backward). set_begun_with b s.args.work.now s.args.i) (sym e.enum-told2.given.1)
 
 pub begun-set-spec : {M : Type 1} → statement M
 begun-set-spec =
@@ -37,4 +37,4 @@ begun-set-spec =
     mul-result
     shared-slice-read-result
     returns
-    returns-2)
+    returns_2)

@@ -1,14 +1,14 @@
 -- By the moves.
 use mathlib.Core.Path.{◌≡◌, sym, ap, ◌∙◌}
 use Rattle.moves.specs.declared.Moves.{Moves}
-use Rattle.storing.specs.Stored.{keptWords}
+use Rattle.storing.specs.Stored.{kept_words}
 use borrow.Author.Rules.{rules}
 use Rattle.storing.proofs.keep_set.Statement.{statement}
 use Rattle.storing.proofs.keep_set.Tie as tie
 
 -- under the name of the moves at hand
-abbrev kept-as : (s : tie.Start) {y : Moves} → s.args.moves ≡ y → keptWords y s.args.work.now s.args.i s.args.set ≡ keptWords s.args.moves s.args.work.now s.args.i s.args.set
-kept-as s e = ap (λ (x : Moves). keptWords x s.args.work.now s.args.i s.args.set) (sym e)
+abbrev kept-as : (s : tie.Start) {y : Moves} → s.args.moves ≡ y → kept_words y s.args.work.now s.args.i s.args.set ≡ kept_words s.args.moves s.args.work.now s.args.i s.args.set
+kept-as s e = ap (λ (x : Moves). kept_words x s.args.work.now s.args.i s.args.set) (sym e)
 
 enum_told : tie.Need-enum-told
 enum_told c = search rules
@@ -31,8 +31,8 @@ same_length c = search rules
 returns : tie.Need-returns
 returns c = let x = c.before.before in let e = x.before.before in x.store-set.ensures ∙ kept-as e.before.before.before e.enum_told.given.1
 
-returns-2 : tie.Need-returns-2
-returns-2 c = kept-as c.before.before.before c.enum-told2.given.1
+returns_2 : tie.Need-returns-2
+returns_2 c = kept-as c.before.before.before c.enum-told2.given.1
 
 same-length-2 : tie.Need-same-length-2
 same-length-2 c = search rules
@@ -51,6 +51,6 @@ keep-set-spec =
     store-set-requires-2
     same_length
     returns
-    returns-2
+    returns_2
     same-length-2
     returns-3)

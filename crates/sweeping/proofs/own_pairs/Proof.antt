@@ -43,9 +43,9 @@ returns c =
     let i = s.args.i in
     let next : 193 + i ≡ 192 + suc i = omega arith in
     record {
-      first = s.requires.1.pairFrom i (le_of_lt s.requires.0.0);
-      last = ap (word s.args.work.now) next ∙ s.requires.1.pairFrom (suc i) s.requires.0.0;
-      row = s.requires.1.rowFrom i s.requires.0.0;
+      first = s.requires.1.pair_from i (le_of_lt s.requires.0.0);
+      last = ap (word s.args.work.now) next ∙ s.requires.1.pair_from (suc i) s.requires.0.0;
+      row = s.requires.1.row_from i s.requires.0.0;
       slots = c.type_size.ensures.0;
     }
 

@@ -8,13 +8,13 @@ use lib.Count.{ones-le}
 use lib.ListN.{length, take}
 use Rattle.problem.specs.Tables.{Tables, tables, higher}
 use Rattle.problem.specs.declared.Allowance.TheVariants.{Checks}
-use Rattle.events.specs.Counts.{allChecks, StopsIn}
-use Rattle.words.specs.Layout.{word, firstPair, left_at}
-use Rattle.words.proofs.Firsts.{first-le}
-use Rattle.words.proofs.Lefts.{left-before}
-use Rattle.sweeping.specs.Sweeps.{Sweepable, Owns, sweepOf}
+use Rattle.events.specs.Counts.{with_all_checks, StopsIn}
+use Rattle.words.specs.Layout.{word, first_pair, left_at}
+use Rattle.words.proofs.Firsts.{first_le}
+use Rattle.words.proofs.Lefts.{left_before}
+use Rattle.sweeping.specs.Sweeps.{Sweepable, Owns, sweep_of}
 use Rattle.sweeping.proofs.Along.{Along, row_within, begins, ends}
-use Rattle.sweeping.proofs.Turns.{Turn, is-pair, before-word, runs-out, in_rows, in_words, still-only, empties, goes_on}
+use Rattle.sweeping.proofs.Turns.{Turn, is_pair_lem, before_word, runs_out_lem, in_rows, in_words, still_only, empties, goes_on_lem}
 use Rattle.sweeping.proofs.sweep.Statement.{statement}
 use Rattle.sweeping.proofs.sweep.Tie as tie
 
@@ -42,7 +42,7 @@ owns : (s : tie.Start invariant-loop decreases-loop) → Owns (T s) s.args.i s.a
 owns s = s.requires.1.0
 
 -- a pair is left
-left : (d : tie.In-loop invariant-loop decreases-loop) → let l = d.before in l.loop.pair < firstPair (T (S l)).pairs (suc (S l).args.i)
+left : (d : tie.In-loop invariant-loop decreases-loop) → let l = d.before in l.loop.pair < first_pair (T (S l)).pairs (suc (S l).args.i)
 left d = rw (owns (S d.before)).last at d.loop-test.true
 
 -- where its live slots stand, and what they are
@@ -50,11 +50,11 @@ abbrev before : tie.At-loop invariant-loop decreases-loop → ℕ
 before l = word l.loop.work (512 + l.loop.pair)
 
 stands : (d : tie.In-loop invariant-loop decreases-loop) → let l = d.before in before l ≡ left_at (T (S l)).pairs (S l).args.i (higher (T (S l)).pairs l.loop.pair)
-stands d = before-word (given (S d.before)) d.before.loop.invariant (left d)
+stands d = before_word (given (S d.before)) d.before.loop.invariant (left d)
 
 -- the pair's number is small, there are all the words, and the live slots stand among them
 small : (d : tie.In-loop invariant-loop decreases-loop) → d.before.loop.pair < 2016
-small d = let g = given (S d.before) in omega (arith, is-pair g d.before.loop.invariant (left d), g.sane.fewPairs)
+small d = let g = given (S d.before) in omega (arith, is_pair_lem g d.before.loop.invariant (left d), g.sane.few_pairs)
 
 room : (l : tie.At-loop invariant-loop decreases-loop) → 8192 ≤ length l.loop.work
 room l = omega (arith, (given (S l)).room, l.loop.invariant.only.long)
@@ -68,9 +68,9 @@ among d =
     omega (
       arith,
       stands d,
-      left-before t g.sane i i (higher t.pairs l.loop.pair) (le_refl i) (g.sane.boatsNamed l.loop.pair (is-pair g l.loop.invariant (left d))),
-      first-le t.pairs i,
-      g.sane.fewPairs,
+      left_before t g.sane i i (higher t.pairs l.loop.pair) (le_refl i) (g.sane.boats_named l.loop.pair (is_pair_lem g l.loop.invariant (left d))),
+      first_le t.pairs i,
+      g.sane.few_pairs,
     )
 
 turn : (c : tie.After-slice-known3 invariant-loop decreases-loop) →
@@ -89,7 +89,7 @@ turn c =
 add_at : tie.Need-overflow-add-at invariant-loop decreases-loop
 add_at c =
     let s = c.before.before.before.before.before in
-    omega (arith, row_within (given s) (owns s), s.well-formed, (given s).slot, (given s).sane.fewSlots s.args.i (given s).boat)
+    omega (arith, row_within (given s) (owns s), s.well-formed, (given s).slot, (given s).sane.few_slots s.args.i (given s).boat)
 
 loop-holds : tie.Need-loop-init invariant-loop decreases-loop
 loop-holds c =
@@ -117,7 +117,7 @@ cast-check-each c =
     omega (arith, ones-le 64 (word l.loop.work (before l)) (turn c).ranges)
 
 check-each-requires : tie.Need-check-each-requires invariant-loop decreases-loop
-check-each-requires c κs = (head c).loop.invariant.makes.fits.checksFit
+check-each-requires c κs = (head c).loop.invariant.makes.fits.checks_fit
 
 enum-known-k : tie.Need-enum-known-k invariant-loop decreases-loop
 enum-known-k c = search rules
@@ -133,8 +133,8 @@ module _ (c : tie.After-enum-told invariant-loop decreases-loop) where
   abbrev read : tie.After-slice-known3 invariant-loop decreases-loop
   read = c.before.before.before
 
-  at_out : let l = (head read).loop in let s = S (head read) in StopsIn s.args.start (sweepOf (T s) (take s.args.i s.args.work.now) s.args.slot).checks Checks (l.counts.most_checks - s.args.start.checks) (allChecks l.counts)
-  at_out = runs-out (turn read) (sym c.before.before.check-each.ensures ∙ c.enum_told.given.1)
+  at_out : let l = (head read).loop in let s = S (head read) in StopsIn s.args.start (sweep_of (T s) (take s.args.i s.args.work.now) s.args.slot).checks Checks (l.counts.most_checks - s.args.start.checks) (with_all_checks l.counts)
+  at_out = runs_out_lem (turn read) (sym c.before.before.check-each.ensures ∙ c.enum_told.given.1)
 
 same_length : tie.Need-same-length invariant-loop decreases-loop
 same_length c = (head (read c.before)).loop.inv.only.long
@@ -160,26 +160,26 @@ slice-write-work : tie.Need-slice-write-work invariant-loop decreases-loop
 slice-write-work c = in_words (turn c.before.before.before.before.before)
 
 same-length-2 : tie.Need-same-length-2 invariant-loop decreases-loop
-same-length-2 c = (still-only (turn c.before.before.before.before.before.before) _).long
+same-length-2 c = (still_only (turn c.before.before.before.before.before.before) _).long
 
-returns-2 : tie.Need-returns-2 invariant-loop decreases-loop
-returns-2 c =
+returns_2 : tie.Need-returns-2 invariant-loop decreases-loop
+returns_2 c =
     let e = c.before.before.before.before.before in
     let u = turn e.before in (
       empties u c.before.before.before.k.given.0.0 (sym e.check-each.ensures ∙ c.before.before.before.k.given.1) c.if1.true,
-      still-only u _,
+      still_only u _,
     )
 
 add-at-2 : tie.Need-overflow-add-at-2 invariant-loop decreases-loop
 add-at-2 c =
     let f = c.before.before.before.before.before.before in
     let s = S (head f) in
-    omega (arith, in_rows (turn f), s.good, (owns s).slots, (given s).sane.fewSlots s.args.i (given s).boat)
+    omega (arith, in_rows (turn f), s.good, (owns s).slots, (given s).sane.few_slots s.args.i (given s).boat)
 
 add-pair : tie.Need-overflow-add-pair invariant-loop decreases-loop
 add-pair c =
     let f = c.before.before.before.before.before.before in
-    omega (arith, is-pair (turn f).given (turn f).along (turn f).more, (turn f).given.sane.fewPairs)
+    omega (arith, is_pair_lem (turn f).given (turn f).along (turn f).more, (turn f).given.sane.few_pairs)
 
 loop-less : tie.Need-loop-smaller invariant-loop decreases-loop
 loop-less c = search rules
@@ -188,7 +188,7 @@ loop-again : tie.Need-loop-preserved invariant-loop decreases-loop
 loop-again c =
     let e = c.before.before.before.before.before in
     let s = S (head e.before) in
-    goes_on (turn e.before) c.before.before.before.k.given.0.0 (sym e.check-each.ensures ∙ c.before.before.before.k.given.1) s.args.own.size
+    goes_on_lem (turn e.before) c.before.before.before.k.given.0.0 (sym e.check-each.ensures ∙ c.before.before.before.k.given.1) s.args.own.size
     (owns s).slots c.if1.false
 
 same-length-3 : tie.Need-same-length-3 invariant-loop decreases-loop
@@ -228,7 +228,7 @@ sweep-spec =
     mul-work
     slice-write-work
     same-length-2
-    returns-2
+    returns_2
     add-at-2
     add-pair
     loop-less

@@ -7,9 +7,9 @@ use Rattle.problem.specs.Tables.{Tables, tables, boats}
 use Rattle.tables.specs.declared.Examined.TheVariants.{Fine}
 use Rattle.tables.specs.declared.pairs.Way.{Way}
 use Rattle.tables.specs.declared.pairs.Way.TheVariants.{Good}
-use Rattle.tables.specs.Replies.{examinedTold}
+use Rattle.tables.specs.Replies.{examined_told}
 use Rattle.tables.specs.Ways.{IsFirst}
-use Rattle.tables.proofs.Examining.{examined-2, examined-3, examined-4, examined-51, examined-6, examined-7, examined-fine, pairTest, summable, framed}
+use Rattle.tables.proofs.Examining.{examined_2, examined_3, examined_4, examined_51, examined_6, examined_7, examined_fine, pair_test, summable, framed}
 use Rattle.tables.proofs.examine.Statement.{statement}
 use Rattle.tables.proofs.examine.Tie as tie
 
@@ -25,15 +25,15 @@ too-many-boats-requires : tie.Need-too-many-boats-requires
 too-many-boats-requires c κs = search rules
 
 returns : tie.Need-returns
-returns c = examined-2 _ (ltb-true 64 _ (sym c.before.too-many-boats.ensures ∙ c.if1.true))
+returns c = examined_2 _ (ltb-true 64 _ (sym c.before.too-many-boats.ensures ∙ c.if1.true))
 
 first-bad-size-requires : tie.Need-first-bad-size-requires
 first-bad-size-requires c κs = few c
 
-returns-2 : tie.Need-returns-2
-returns-2 c =
+returns_2 : tie.Need-returns-2
+returns_2 c =
     let e1 = c.before.before in
-    examined-3 _ (few e1) c.before.first-bad-size.ensures c.if2.true
+    examined_3 _ (few e1) c.before.first-bad-size.ensures c.if2.true
 
 bad-pair-bytes-requires : tie.Need-bad-pair-bytes-requires
 bad-pair-bytes-requires c κs = search rules
@@ -42,7 +42,7 @@ returns-3 : tie.Need-returns-3
 returns-3 c =
     let e2 = c.before.before in
     let e1 = e2.before.before in
-    examined-4 _ (few e1) e2.before.first-bad-size.ensures e2.if2.false c.before.bad-pair-bytes.ensures c.if3.true
+    examined_4 _ (few e1) e2.before.first-bad-size.ensures e2.if2.false c.before.bad-pair-bytes.ensures c.if3.true
 
 first-bad-pair-requires : tie.Need-first-bad-pair-requires
 first-bad-pair-requires c κs = search rules
@@ -57,15 +57,15 @@ returns-4 c =
     let e3 = p.before in
     let e2 = e3.before.before in
     let e1 = e2.before.before in
-    examined-51 _ (few e1) e2.before.first-bad-size.ensures e2.if2.false e3.before.bad-pair-bytes.ensures e3.if3.false
-    w.way.given.0.0 (subst (λ (x : Way). IsFirst x (pairTest (T e1.before))) w.way.given.1 p.first-bad-pair.ensures)
+    examined_51 _ (few e1) e2.before.first-bad-size.ensures e2.if2.false e3.before.bad-pair-bytes.ensures e3.if3.false
+    w.way.given.0.0 (subst (λ (x : Way). IsFirst x (pair_test (T e1.before))) w.way.given.1 p.first-bad-pair.ensures)
 
 enum_told : tie.Need-enum-told
 enum_told c = search rules
 
 -- no pair is bad
-paired : (c : tie.After-enum-told) → IsFirst Good (pairTest (T c.before.before.before.before.before.before.before.before))
-paired c = subst (λ (x : Way). IsFirst x (pairTest (T c.before.before.before.before.before.before.before.before))) c.enum_told.given.1 c.before.before.first-bad-pair.ensures
+paired : (c : tie.After-enum-told) → IsFirst Good (pair_test (T c.before.before.before.before.before.before.before.before))
+paired c = subst (λ (x : Way). IsFirst x (pair_test (T c.before.before.before.before.before.before.before.before))) c.enum_told.given.1 c.before.before.first-bad-pair.ensures
 
 start-of-requires : tie.Need-start-of-requires
 start-of-requires c κs =
@@ -81,7 +81,7 @@ returns-5 c =
     let e3 = p.before.before.before in
     let e2 = e3.before.before in
     let e1 = e2.before.before in
-    examined-6 _ (few e1) e2.before.first-bad-size.ensures e2.if2.false e3.before.bad-pair-bytes.ensures e3.if3.false
+    examined_6 _ (few e1) e2.before.first-bad-size.ensures e2.if2.false e3.before.bad-pair-bytes.ensures e3.if3.false
     (paired p) c.before.start_of_lem.ensures.0 c.if4.true
 
 first-bad-word-requires : tie.Need-first-bad-word-requires
@@ -100,7 +100,7 @@ returns-6 c =
     let e3 = p.before.before.before in
     let e2 = e3.before.before in
     let e1 = e2.before.before in
-    examined-7 _ (few e1) e2.before.first-bad-size.ensures e2.if2.false e3.before.bad-pair-bytes.ensures e3.if3.false
+    examined_7 _ (few e1) e2.before.first-bad-size.ensures e2.if2.false e3.before.bad-pair-bytes.ensures e3.if3.false
     (paired p) e4.before.start_of_lem.ensures.0 e4.if4.false c.before.first-bad-word.ensures c.if5.true
 
 of-requires : tie.Need-of-requires
@@ -114,8 +114,8 @@ returns-7 c =
     let e3 = p.before.before.before in
     let e2 = e3.before.before in
     let e1 = e2.before.before in
-    ap (λ p. examinedTold (Fine p)) c.of.ensures
-    ∙ examined-fine _ (few e1) e2.before.first-bad-size.ensures e2.if2.false e3.before.bad-pair-bytes.ensures e3.if3.false
+    ap (λ p. examined_told (Fine p)) c.of.ensures
+    ∙ examined_fine _ (few e1) e2.before.first-bad-size.ensures e2.if2.false e3.before.bad-pair-bytes.ensures e3.if3.false
     (paired p) e4.before.start_of_lem.ensures.0 e4.if4.false e5.before.first-bad-word.ensures e5.if5.false
 
 pub examine-spec : {M : Type 1} → statement M
@@ -125,7 +125,7 @@ examine-spec =
     too-many-boats-requires
     returns
     first-bad-size-requires
-    returns-2
+    returns_2
     bad-pair-bytes-requires
     returns-3
     first-bad-pair-requires

@@ -7,15 +7,15 @@ use native.Mathlib.Omega.{arith}
 use Rattle.problem.specs.Tables.{Tables, tables}
 use Rattle.words.specs.Places.{blames, last_at}
 use Rattle.words.specs.Layout.{word}
-use Rattle.words.proofs.Chains.{last-before}
+use Rattle.words.proofs.Chains.{last_before_lem}
 use Rattle.visits.specs.declared.Backward.TheVariants.{BySets}
 use Rattle.visits.specs.declared.Unlabelled.{Unlabelled}
 use Rattle.moves.specs.declared.Moves.{Moves}
 use Rattle.moves.specs.declared.Moves.TheVariants.{LookingBack, LookingAhead}
 use Rattle.moves.specs.Memory.{Kept}
 use Rattle.unlabelling.specs.Unlabels.{Unlabels}
-use Rattle.unlabelling.proofs.Backwards.{left-few, back-by-one, ahead-by-one}
-use Rattle.unlabelling.proofs.Jumping.{back-by-sets, ahead-by-sets, blamed-below}
+use Rattle.unlabelling.proofs.Backwards.{left_few, back_by_one, ahead_by_one}
+use Rattle.unlabelling.proofs.Jumping.{back_by_sets, ahead_by_sets, blamed_below}
 use borrow.Author.Rules.{rules}
 use Rattle.unlabelling.proofs.unlabel.Statement.{statement}
 use Rattle.unlabelling.proofs.unlabel.Tie as tie
@@ -58,7 +58,7 @@ among : (e : tie.After-enum-told5) → word (W (start e)) (last_at (start e).arg
 among e =
     let s = start e in
     let g = s.pre.0 in
-    omega (arith, last-before (T s) g.sane (known e).words.chained s.args.i g.boat, g.sane.fewPairs)
+    omega (arith, last_before_lem (T s) g.sane (known e).words.chained s.args.i g.boat, g.sane.few_pairs)
 
 enum-known-moves : tie.Need-enum-known-moves
 enum-known-moves c = search rules
@@ -87,7 +87,7 @@ jump-back-requires c κs =
     let n = e.before.before.before in
     let s = entry n.before.before in
     let low = (kept-as s (back-sets n e.enum-told2.given.1)).sets in
-    (left-few s.pre.0, s.pre.0.room, low s.args.i (le_refl _), low)
+    (left_few s.pre.0, s.pre.0.room, low s.args.i (le_refl _), low)
 
 enum-told-3 : tie.Need-enum-told-3
 enum-told-3 c = search rules
@@ -142,7 +142,7 @@ jump-back-requires-2 c κs =
     let e = c.before.before.before.before in
     let g = (start e).requires.0 in
     let q = known e in
-    (left-few g, g.room, blamed-below g q.words q.sets, q.sets)
+    (left_few g, g.room, blamed_below g q.words q.sets, q.sets)
 
 returns : tie.Need-returns
 returns c =
@@ -150,13 +150,13 @@ returns c =
     let n = e.before.before.before in
     let s = entry n.before.before in
     let k = n.moves.given.1 ∙ ap LookingBack e.enum_told.given.1 in
-    unlabels-as s k (W s) c.step_back.result (back-by-one s.pre.0 c.step_back.ensures (kept-as s k).words)
+    unlabels-as s k (W s) c.step_back.result (back_by_one s.pre.0 c.step_back.ensures (kept-as s k).words)
 
 same_length : tie.Need-same-length
 same_length c = search rules
 
-returns-2 : tie.Need-returns-2
-returns-2 c =
+returns_2 : tie.Need-returns-2
+returns_2 c =
     let j = c.before.before in
     let e = j.before.before.before in
     let n = e.before.before.before in
@@ -164,7 +164,7 @@ returns-2 c =
     let k = back-sets n e.enum-told2.given.1 in
     let q = kept-as s k in
     let u = j.jump_back.new.1.1.0 in
-    unlabels-as s k u j.jump_back.result (back-by-sets s.pre.0 q.words q.sets u j.jump_back.result j.jump_back.ensures)
+    unlabels-as s k u j.jump_back.result (back_by_sets s.pre.0 q.words q.sets u j.jump_back.result j.jump_back.ensures)
 
 same-length-2 : tie.Need-same-length-2
 same-length-2 c = search rules
@@ -182,7 +182,7 @@ returns-4 c =
     let n = e.before.before.before in
     let s = entry n.before.before in
     let k = n.moves2.given.1 ∙ ap LookingAhead e.enum-told4.given.1 in
-    unlabels-as s k (W s) c.step-back2.result (ahead-by-one s.pre.0 c.step-back2.ensures (kept-as s k).words)
+    unlabels-as s k (W s) c.step-back2.result (ahead_by_one s.pre.0 c.step-back2.ensures (kept-as s k).words)
 
 same-length-3 : tie.Need-same-length-3
 same-length-3 c = search rules
@@ -195,7 +195,7 @@ returns-5 c =
     let q = known e in
     let u = j.jump-back2.new.1.1.0 in
     unlabels-as s (ahead-sets e.before.before.before e.enum-told5.given.1) u j.jump-back2.result
-    (ahead-by-sets s.pre.0 q.words q.sets (fit e.before.before.before.before.before) u j.jump-back2.result j.jump-back2.ensures)
+    (ahead_by_sets s.pre.0 q.words q.sets (fit e.before.before.before.before.before) u j.jump-back2.result j.jump-back2.ensures)
 
 pub unlabel-spec : {M : Type 1} → statement M
 unlabel-spec =
@@ -227,7 +227,7 @@ unlabel-spec =
     jump-back-requires-2
     returns
     same_length
-    returns-2
+    returns_2
     same-length-2
     returns-3
     returns-4

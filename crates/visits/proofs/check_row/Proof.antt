@@ -2,7 +2,7 @@
 use mathlib.Core.Path.{sym, ◌∙◌}
 use borrow.Author.Rules.{rules}
 use Rattle.problem.specs.Tables.{bit}
-use Rattle.visits.proofs.Looks.{look-out, look-allowed, look-forbidden}
+use Rattle.visits.proofs.Looks.{look_out, look_allowed, look_forbidden}
 use Rattle.visits.proofs.check_row.Statement.{statement}
 use Rattle.visits.proofs.check_row.Tie as tie
 
@@ -21,18 +21,18 @@ bit-requires c κs = search rules
 returns : tie.Need-returns
 returns c =
     let a = c.before.before.before.args in
-    look-out (bit a.row a.slot) a.counts _ c.before.before.check.ensures c.enum_told.given.1
+    look_out (bit a.row a.slot) a.counts _ c.before.before.check.ensures c.enum_told.given.1
 
-returns-2 : tie.Need-returns-2
-returns-2 c =
+returns_2 : tie.Need-returns-2
+returns_2 c =
     let a = c.before.before.before.before.before.before.args in
-    look-allowed (bit a.row a.slot) a.counts _ _ c.before.before.before.before.before.check.ensures c.before.before.before.k.given.1 (sym c.before.bit.ensures ∙ c.if1.true)
+    look_allowed (bit a.row a.slot) a.counts _ _ c.before.before.before.before.before.check.ensures c.before.before.before.k.given.1 (sym c.before.bit.ensures ∙ c.if1.true)
 
 returns-3 : tie.Need-returns-3
 returns-3 c =
     let a = c.before.before.before.before.before.before.args in
-    look-forbidden (bit a.row a.slot) a.counts _ _ c.before.before.before.before.before.check.ensures c.before.before.before.k.given.1 (sym c.before.bit.ensures ∙ c.if1.false)
+    look_forbidden (bit a.row a.slot) a.counts _ _ c.before.before.before.before.before.check.ensures c.before.before.before.k.given.1 (sym c.before.bit.ensures ∙ c.if1.false)
 
 pub check-row-spec : {M : Type 1} → statement M
 check-row-spec =
-    tie.close (tie.spec check-requires enum_told enum-known-k bit-requires returns returns-2 returns-3)
+    tie.close (tie.spec check-requires enum_told enum-known-k bit-requires returns returns_2 returns-3)

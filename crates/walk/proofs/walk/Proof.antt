@@ -10,22 +10,22 @@ use Rattle.problem.specs.Tables.{Tables, tables, boats}
 use Rattle.problem.specs.Sane.{Sane}
 use Rattle.problem.specs.declared.Allowance.TheVariants.{Checks, Trials}
 use Rattle.events.specs.declared.Counts.{Counts}
-use Rattle.methods.proofs.StepsLeft.{stepsLeftOf}
+use Rattle.methods.proofs.StepsLeft.{steps_left_of}
 use Rattle.words.specs.Places.{used}
 use Rattle.words.specs.Layout.{ChangedOnly, Placed}
-use Rattle.words.proofs.ChangedOnly.{only-trans}
+use Rattle.words.proofs.ChangedOnly.{only_trans}
 use Rattle.visits.specs.declared.Unlabelled.{Unlabelled}
 use Rattle.moves.specs.declared.Moves.{Moves}
 use Rattle.moves.specs.Memory.{Memory, memory}
 use Rattle.labelling.specs.declared.Labelled.{Labelled}
 use Rattle.labelling.specs.declared.Labelled.TheVariants.{Passed, Spent, OutOfChecks, OutOfTrials}
-use Rattle.storing.specs.Stored.{keptWords}
+use Rattle.storing.specs.Stored.{kept_words}
 use Rattle.labelling.specs.Labels.{Labels, MovesOn, NoneLeft}
-use Rattle.storing.proofs.Stored.{kept-long}
+use Rattle.storing.proofs.Stored.{kept_long}
 use Rattle.unlabelling.specs.Unlabels.{Unlabels}
 use Rattle.ends.specs.declared.Ended.TheVariants.{Undecided}
 use Rattle.walk.specs.Walks.{Arrives, EndsSolved, Ends}
-use Rattle.walk.proofs.Underway.{Underway, begins, long, forward, forward-less, halted, left-long, no-plan, given-up, backward, backward-less, placed_of}
+use Rattle.walk.proofs.Underway.{Underway, begins, long, forward, forward_less, halted, left_long, no_plan_lem, given_up_lem, backward, backward_less, placed_of}
 use Rattle.walk.proofs.walk.Statement.{statement}
 use Rattle.walk.proofs.walk.Tie as tie
 
@@ -34,7 +34,7 @@ invariant-loop moves sizes pairs rows boat from work₀ n i₀ slot₀ counts₀
     Underway moves (tables sizes pairs rows) (take boat work₀) from (memory moves work₀ boat) work₀ counts₀ work i slot counts
 
 abbrev decreases-loop : tie.decreases-loop
-decreases-loop moves sizes pairs rows boat from work₀ n i₀ slot₀ counts₀ work i slot counts = stepsLeftOf (tables sizes pairs rows) (take i work) slot
+decreases-loop moves sizes pairs rows boat from work₀ n i₀ slot₀ counts₀ work i slot counts = steps_left_of (tables sizes pairs rows) (take i work) slot
 
 -- THE PLACES: the entry, its moves, tables and words, and the place where it stood, seen from the head of the loop
 abbrev Entry : Type 0
@@ -123,11 +123,11 @@ module _ (u : tie.After-unlabel invariant-loop decreases-loop) where
 -- ---- an allowance has run out: the set in hand is still to be kept, and no word has come or gone
 labelled-long : (d : tie.After-label invariant-loop decreases-loop) (set : ℕ) →
     let l = head d in
-    ChangedOnly 0 used (begun l) (keptWords (M l) (labelled d) l.loop.i set) → length (labelled d) ≡ length (begun l)
-labelled-long d set o = let l = head d in omega (arith, kept-long (M l) (labelled d) l.loop.i set, o.long)
+    ChangedOnly 0 used (begun l) (kept_words (M l) (labelled d) l.loop.i set) → length (labelled d) ≡ length (begun l)
+labelled-long d set o = let l = head d in omega (arith, kept_long (M l) (labelled d) l.loop.i set, o.long)
 
 kept-room : (d : tie.After-label invariant-loop decreases-loop) → length (labelled d) ≡ length (begun (head d)) → ((head d).loop.i < 64) × (used ≤ length (labelled d))
-kept-room d e = let l = head d in (omega (arith, onboard d, (sane l).fewBoats), omega (arith, room l))
+kept-room d e = let l = head d in (omega (arith, onboard d, (sane l).few_boats), omega (arith, room l))
 
 module _ (c : tie.After-known-told4 invariant-loop decreases-loop) where
   abbrev there : tie.After-label invariant-loop decreases-loop
@@ -137,30 +137,30 @@ module _ (c : tie.After-known-told4 invariant-loop decreases-loop) where
   abbrev set_then : ℕ
   set_then = c.before.k3.given.0.1.0
 
-  abbrev slot-then : ℕ
-  slot-then = c.before.k3.given.0.1.1.0
+  abbrev slot_then : ℕ
+  slot_then = c.before.k3.given.0.1.1.0
 
   abbrev made_then : ℕ
   made_then = c.before.k3.given.0.1.1.1.0
 
-  checks-out : let l = head there in
-      Ends (M l) (T l) (P l) (A l) (Σ l) (begun l) (start l) (keptWords (M l) (labelled there) l.loop.i set_then)
-      (Undecided c.before.k3.given.0.0 Checks (record { boat = l.loop.i; slot = slot-then; made = made_then }))
-  checks-out =
+  checks_out : let l = head there in
+      Ends (M l) (T l) (P l) (A l) (Σ l) (begun l) (start l) (kept_words (M l) (labelled there) l.loop.i set_then)
+      (Undecided c.before.k3.given.0.0 Checks (record { boat = l.loop.i; slot = slot_then; made = made_then }))
+  checks_out =
       let l = head there in
       let g = c.before.k3.given in
-      halted (M l) (T l) (sane l) (P l) (A l) (Σ l) (begun l) (start l) (room l) _ _ _ _ l.loop.inv (onboard there) _ Checks slot-then made_then g.0.0
-      (ended there (OutOfChecks g.0.0 set_then slot-then made_then) g.1)
+      halted (M l) (T l) (sane l) (P l) (A l) (Σ l) (begun l) (start l) (room l) _ _ _ _ l.loop.inv (onboard there) _ Checks slot_then made_then g.0.0
+      (ended there (OutOfChecks g.0.0 set_then slot_then made_then) g.1)
 
 module _ (c : tie.After-known-told5 invariant-loop decreases-loop) where
   abbrev then : tie.After-label invariant-loop decreases-loop
   then = c.before.before.before.before.before
 
-  trials-out : let l = head then in
+  trials_out : let l = head then in
       let g = c.before.k4.given in
-      Ends (M l) (T l) (P l) (A l) (Σ l) (begun l) (start l) (keptWords (M l) (labelled then) l.loop.i g.0.1.0)
+      Ends (M l) (T l) (P l) (A l) (Σ l) (begun l) (start l) (kept_words (M l) (labelled then) l.loop.i g.0.1.0)
       (Undecided g.0.0 Trials (record { boat = l.loop.i; slot = g.0.1.1.0; made = 0 }))
-  trials-out =
+  trials_out =
       let l = head then in
       let g = c.before.k4.given in
       halted (M l) (T l) (sane l) (P l) (A l) (Σ l) (begun l) (start l) (room l) _ _ _ _ l.loop.inv (onboard then) _ Trials g.0.1.1.0 0 g.0.0
@@ -191,13 +191,13 @@ enum-known-k : tie.Need-enum-known-k invariant-loop decreases-loop
 enum-known-k c = search rules
 
 add-i : tie.Need-overflow-add-i invariant-loop decreases-loop
-add-i c = omega (arith, (sane (head c.before.before.before.before.before)).fewBoats, onboard c.before.before.before.before.before)
+add-i c = omega (arith, (sane (head c.before.before.before.before.before)).few_boats, onboard c.before.before.before.before.before)
 
 loop-less : tie.Need-loop-smaller invariant-loop decreases-loop
 loop-less c =
     let d = c.before.before.before.before.before in
     let l = head d in
-    rw add-one (forward-less (M l) (T l) (sane l) (P l) (A l) (Σ l) (begun l) (start l) (room l) _ _ _ _ l.loop.inv (onboard d) _ _ (passed d _ c.before.k.given.1))
+    rw add-one (forward_less (M l) (T l) (sane l) (P l) (A l) (Σ l) (begun l) (start l) (room l) _ _ _ _ l.loop.inv (onboard d) _ _ (passed d _ c.before.k.given.1))
 
 loop-again : tie.Need-loop-preserved invariant-loop decreases-loop
 loop-again c =
@@ -212,7 +212,7 @@ unlabel-requires : tie.Need-unlabel-requires invariant-loop decreases-loop
 unlabel-requires c κs =
     let d = tried c.before in
     let l = head d in (
-      record { sane = sane l; boat = onboard d; room = left-long (M l) (T l) (sane l) (P l) (A l) (Σ l) (begun l) (start l) (room l) _ _ _ _ l.loop.inv (onboard d) _ _ (none c.before) },
+      record { sane = sane l; boat = onboard d; room = left_long (M l) (T l) (sane l) (P l) (A l) (Σ l) (begun l) (start l) (room l) _ _ _ _ l.loop.inv (onboard d) _ _ (none c.before) },
       (none c.before).kept,
     )
 
@@ -222,7 +222,7 @@ enum-known-h c = search rules
 mul-slot : tie.Need-overflow-mul-slot invariant-loop decreases-loop
 mul-slot c =
     let u = c.before.before.before.before.before in
-    omega (arith, (gone u _ c.before.h.given.1).below, onboard (label u), (sane (head (label u))).fewBoats)
+    omega (arith, (gone u _ c.before.h.given.1).below, onboard (label u), (sane (head (label u))).few_boats)
 
 slice-read-slot : tie.Need-slice-read-slot invariant-loop decreases-loop
 slice-read-slot c =
@@ -230,21 +230,21 @@ slice-read-slot c =
     let d = label u in
     let l = head d in
     let g = gone u _ c.before.before.h.given.1 in
-    omega (arith, g.below, onboard d, (sane l).fewBoats, g.only.long, left-long (M l) (T l) (sane l) (P l) (A l) (Σ l) (begun l) (start l) (room l) _ _ _ _ l.loop.inv (onboard d) _ _ (none u.before.before))
+    omega (arith, g.below, onboard d, (sane l).few_boats, g.only.long, left_long (M l) (T l) (sane l) (P l) (A l) (Σ l) (begun l) (start l) (room l) _ _ _ _ l.loop.inv (onboard d) _ _ (none u.before.before))
 
 add-slot : tie.Need-overflow-add-slot invariant-loop decreases-loop
 add-slot c =
     let u = c.before.before.before.before.before.before in
     let d = label u in
     let l = head d in
-    omega (arith, given-up (M l) (T l) (sane l) (P l) (A l) (Σ l) (begun l) (start l) (room l) _ _ _ _ l.loop.inv (onboard d) _ _ (none u.before.before) _ _ (gone u _ c.before.before.h.given.1))
+    omega (arith, given_up_lem (M l) (T l) (sane l) (P l) (A l) (Σ l) (begun l) (start l) (room l) _ _ _ _ l.loop.inv (onboard d) _ _ (none u.before.before) _ _ (gone u _ c.before.before.h.given.1))
 
 loop-less-2 : tie.Need-loop-smaller-2 invariant-loop decreases-loop
 loop-less-2 c =
     let u = c.before.before.before.before.before.before in
     let d = label u in
     let l = head d in
-    rw add-one (backward-less (M l) (T l) (sane l) (P l) (A l) (Σ l) (begun l) (start l) (room l) _ _ _ _ l.loop.inv (onboard d) _ _ (none u.before.before) _ _ (gone u _ c.before.before.h.given.1))
+    rw add-one (backward_less (M l) (T l) (sane l) (P l) (A l) (Σ l) (begun l) (start l) (room l) _ _ _ _ l.loop.inv (onboard d) _ _ (none u.before.before) _ _ (gone u _ c.before.before.h.given.1))
 
 loop-again-2 : tie.Need-loop-preserved-2 invariant-loop decreases-loop
 loop-again-2 c =
@@ -261,7 +261,7 @@ same_length c =
     let u = c.before.before.before.before in
     let d = label u in
     let l = head d in
-    (only-trans l.loop.inv.only (only-trans (none u.before.before).only (gone u _ c.enum_told.given.1).only)).long
+    (only_trans l.loop.inv.only (only_trans (none u.before.before).only (gone u _ c.enum_told.given.1).only)).long
 
 returns : tie.Need-returns invariant-loop decreases-loop
 returns c =
@@ -270,39 +270,39 @@ returns c =
     let l = head d in
     let g = gone u _ c.enum_told.given.1 in
     record {
-      only = only-trans l.loop.inv.only (only-trans (none u.before.before).only g.only);
-      ends = no-plan (M l) (T l) (sane l) (P l) (A l) (Σ l) (begun l) (start l) (room l) _ _ _ _ l.loop.inv (onboard d) _ _ (none u.before.before) g.goes;
+      only = only_trans l.loop.inv.only (only_trans (none u.before.before).only g.only);
+      ends = no_plan_lem (M l) (T l) (sane l) (P l) (A l) (Σ l) (begun l) (start l) (room l) _ _ _ _ l.loop.inv (onboard d) _ _ (none u.before.before) g.goes;
     }
 
 enum-known-k-3 : tie.Need-enum-known-k-3 invariant-loop decreases-loop
 enum-known-k-3 c = search rules
 
 stopped-requires : tie.Need-stopped-requires invariant-loop decreases-loop
-stopped-requires c κs = let k = c.before in kept-room (there k) (labelled-long (there k) _ (checks-out k).only)
+stopped-requires c κs = let k = c.before in kept-room (there k) (labelled-long (there k) _ (checks_out k).only)
 
 same-length-2 : tie.Need-same-length-2 invariant-loop decreases-loop
 same-length-2 c =
     let x = c.before.before in
     let k = x.before.before in
-    rw (x.stopped.ensures.1, kept-long) (labelled-long (there k) _ (checks-out k).only)
+    rw (x.stopped.ensures.1, kept_long) (labelled-long (there k) _ (checks_out k).only)
 
-returns-2 : tie.Need-returns-2 invariant-loop decreases-loop
-returns-2 c = let x = c.before.before in rw (x.stopped.ensures.0, x.stopped.ensures.1) (checks-out x.before.before)
+returns_2 : tie.Need-returns-2 invariant-loop decreases-loop
+returns_2 c = let x = c.before.before in rw (x.stopped.ensures.0, x.stopped.ensures.1) (checks_out x.before.before)
 
 enum-known-k-4 : tie.Need-enum-known-k-4 invariant-loop decreases-loop
 enum-known-k-4 c = search rules
 
 stopped-requires-2 : tie.Need-stopped-requires-2 invariant-loop decreases-loop
-stopped-requires-2 c κs = let k = c.before in kept-room (then k) (labelled-long (then k) _ (trials-out k).only)
+stopped-requires-2 c κs = let k = c.before in kept-room (then k) (labelled-long (then k) _ (trials_out k).only)
 
 same-length-3 : tie.Need-same-length-3 invariant-loop decreases-loop
 same-length-3 c =
     let x = c.before.before in
     let k = x.before.before in
-    rw (x.stopped2.ensures.1, kept-long) (labelled-long (then k) _ (trials-out k).only)
+    rw (x.stopped2.ensures.1, kept_long) (labelled-long (then k) _ (trials_out k).only)
 
 returns-3 : tie.Need-returns-3 invariant-loop decreases-loop
-returns-3 c = let x = c.before.before in rw (x.stopped2.ensures.0, x.stopped2.ensures.1) (trials-out x.before.before)
+returns-3 c = let x = c.before.before in rw (x.stopped2.ensures.0, x.stopped2.ensures.1) (trials_out x.before.before)
 
 same-length-4 : tie.Need-same-length-4 invariant-loop decreases-loop
 same-length-4 c = c.before.loop.invariant.only.long
@@ -338,7 +338,7 @@ walk-spec =
     enum-known-k-3
     stopped-requires
     same-length-2
-    returns-2
+    returns_2
     enum-known-k-4
     stopped-requires-2
     same-length-3

@@ -4,7 +4,7 @@ use borrow.Author.Rules.{rules}
 use native.Mathlib.Numerals.{towards_suc}
 use native.Mathlib.Omega.{arith}
 use lib.ListN.{length-set}
-use Rattle.writer.proofs.Puts.{puts-stored}
+use Rattle.writer.proofs.Puts.{puts_stored}
 use Rattle.writer.proofs.put_four.Statement.{statement}
 use Rattle.writer.proofs.put_four.Tie as tie
 
@@ -35,7 +35,7 @@ same_length c = search rules
 returns : tie.Need-returns
 returns c =
     let a = c.args in
-    simp towards_suc (puts-stored (a.first ∷ a.second ∷ a.third ∷ a.fourth ∷ []) c.requires)
+    simp towards_suc (puts_stored (a.first ∷ a.second ∷ a.third ∷ a.fourth ∷ []) c.requires)
 
 pub put-four-spec : {M : Type 1} → statement M
 put-four-spec =

@@ -5,9 +5,9 @@ use borrow.Author.Rules.{rules}
 use native.Mathlib.Omega.{arith}
 use lib.ListN.{length}
 use Rattle.problem.specs.Tables.{tables, size, listed, lower}
-use Rattle.problem.proofs.Places.{lower-named}
-use Rattle.writer.proofs.Puts.{puts-length}
-use Rattle.writer.proofs.Pairs.{AtPair, pairs-begin, rows_inside, pair_inside, pairs-more}
+use Rattle.problem.proofs.Places.{lower_named_lem}
+use Rattle.writer.proofs.Puts.{puts_length}
+use Rattle.writer.proofs.Pairs.{AtPair, pairs_begin, rows_inside, pair_inside, pairs_more}
 use Rattle.writer.proofs.put_pairs.Statement.{statement}
 use Rattle.writer.proofs.put_pairs.Tie as tie
 
@@ -35,7 +35,7 @@ room : (d : tie.After-size-of invariant-loop decreases-loop) → (head d).loop.a
 room d = pair_inside (head d).loop.invariant (entry d).requires.0 (listed_here d) (slots d) (entry d).requires.1
 
 loop-holds : tie.Need-loop-init invariant-loop decreases-loop
-loop-holds c = pairs-begin (omega arith)
+loop-holds c = pairs_begin (omega arith)
 
 lower-of-requires : tie.Need-lower-of-requires invariant-loop decreases-loop
 lower-of-requires c κs = search rules
@@ -43,7 +43,7 @@ lower-of-requires c κs = search rules
 size-of-requires : tie.Need-size-of-requires invariant-loop decreases-loop
 size-of-requires c κs =
     let s = c.before.before.before.before.before.before.before in
-    omega (arith, c.lower_of.ensures.0, lower-named (tables s.args.sizes.now s.args.pairs.now s.args.rows.now) s.requires.0 c.before.before.loop.k c.before.loop-test.true)
+    omega (arith, c.lower_of.ensures.0, lower_named_lem (tables s.args.sizes.now s.args.pairs.now s.args.rows.now) s.requires.0 c.before.before.loop.k c.before.loop-test.true)
 
 mul-put-four : tie.Need-overflow-mul-put-four invariant-loop decreases-loop
 mul-put-four c = search rules
@@ -66,13 +66,13 @@ put-four-requires c κs = omega (arith, room c.before.before.before)
 add-put-words : tie.Need-overflow-add-put-words invariant-loop decreases-loop
 add-put-words c =
     let d = c.before.before.before.before.before.before.before in
-    omega (arith, room d, puts-length (head d).loop.invariant.put, (entry d).well-formed)
+    omega (arith, room d, puts_length (head d).loop.invariant.put, (entry d).well-formed)
 
 put-words-requires : tie.Need-put-words-requires invariant-loop decreases-loop
 put-words-requires c κs =
     let p = c.before.before.before in
     let d = p.before.before.before.before in
-    (rows_inside (head d).loop.invariant (entry d).requires.0 (listed_here d) (slots d), omega (arith, room d, puts-length p.put_four.ensures))
+    (rows_inside (head d).loop.invariant (entry d).requires.0 (listed_here d) (slots d), omega (arith, room d, puts_length p.put_four.ensures))
 
 mul_at : tie.Need-overflow-mul-at invariant-loop decreases-loop
 mul_at c = search rules
@@ -83,7 +83,7 @@ add_at c = search rules
 add-at-2 : tie.Need-overflow-add-at-2 invariant-loop decreases-loop
 add-at-2 c =
     let d = c.before.before.before.before.before.before.before.before.before.before in
-    omega (arith, room d, puts-length (head d).loop.invariant.put, (entry d).well-formed)
+    omega (arith, room d, puts_length (head d).loop.invariant.put, (entry d).well-formed)
 
 add_start : tie.Need-overflow-add-start invariant-loop decreases-loop
 add_start c =
@@ -101,10 +101,10 @@ loop-again c =
     let w = c.before.before in
     let p = w.before.before.before.before in
     let d = p.before.before.before.before in
-    pairs-more (head d).loop.invariant (entry d).requires.0 (listed_here d) (slots d) p.put_four.ensures w.put-words.ensures
+    pairs_more (head d).loop.invariant (entry d).requires.0 (listed_here d) (slots d) p.put_four.ensures w.put-words.ensures
 
 same_length : tie.Need-same-length invariant-loop decreases-loop
-same_length c = puts-length c.before.loop.invariant.put
+same_length c = puts_length c.before.loop.invariant.put
 
 returns : tie.Need-returns invariant-loop decreases-loop
 returns c =

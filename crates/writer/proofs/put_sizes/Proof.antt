@@ -8,7 +8,7 @@ use native.Mathlib.Omega.{arith}
 use lib.ListN.{length, get_or, take, set, length-set}
 use lib.Seq.{length-take-le, take_all, take-suc}
 use Rattle.writer.specs.Puts.{Puts}
-use Rattle.writer.proofs.Puts.{puts-stored, puts-length, puts_then}
+use Rattle.writer.proofs.Puts.{puts_stored, puts_length, puts_then}
 use Rattle.writer.proofs.put_sizes.Statement.{statement}
 use Rattle.writer.proofs.put_sizes.Tie as tie
 
@@ -23,7 +23,7 @@ begun : (c : tie.At-loop invariant-loop decreases-loop)
     → let a = c.before.args in
     let n = length a.sizes.now in
     Puts (0x53 ∷ 0x5A ∷ n ∷ []) 0 a.file.now (set (set (set a.file.now 0 0x53) 1 0x5A) 2 n)
-begun c = puts-stored (0x53 ∷ 0x5A ∷ length c.before.args.sizes.now ∷ []) (omega arith)
+begun c = puts_stored (0x53 ∷ 0x5A ∷ length c.before.args.sizes.now ∷ []) (omega arith)
 
 -- and i sizes behind them
 put : (c : tie.At-loop invariant-loop decreases-loop)
@@ -45,7 +45,7 @@ slice-write-file-3 : tie.Need-slice-write-file-3 invariant-loop decreases-loop
 slice-write-file-3 c = simp length-set (omega arith)
 
 loop-holds : tie.Need-loop-init invariant-loop decreases-loop
-loop-holds c = (omega arith, puts-stored [] (simp length-set (omega arith)))
+loop-holds c = (omega arith, puts_stored [] (simp length-set (omega arith)))
 
 shared-slice-read-file : tie.Need-shared-slice-read-file invariant-loop decreases-loop
 shared-slice-read-file c = search rules
@@ -54,7 +54,7 @@ add-file : tie.Need-overflow-add-file invariant-loop decreases-loop
 add-file c = search rules
 
 slice-write-file-4 : tie.Need-slice-write-file-4 invariant-loop decreases-loop
-slice-write-file-4 c = omega (arith, puts-length (put c.before.before))
+slice-write-file-4 c = omega (arith, puts_length (put c.before.before))
 
 add-i : tie.Need-overflow-add-i invariant-loop decreases-loop
 add-i c = search rules
@@ -68,11 +68,11 @@ loop-again c =
     let sizes = c.before.before.before.args.sizes.now in (
       omega arith,
       puts_then l.invariant.1 (omega (arith, length-take-le l.i sizes (omega arith))) (rw add-one (sym (take-suc sizes l.i 0 (omega arith))))
-          (puts-stored (get_or sizes l.i 0 ∷ []) (omega (arith, puts-length (put c.before.before), puts-length (begun c.before.before)))),
+          (puts_stored (get_or sizes l.i 0 ∷ []) (omega (arith, puts_length (put c.before.before), puts_length (begun c.before.before)))),
     )
 
 same_length : tie.Need-same-length invariant-loop decreases-loop
-same_length c = puts-length (put c.before)
+same_length c = puts_length (put c.before)
 
 returns : tie.Need-returns invariant-loop decreases-loop
 returns c = rw (take_all c.before.loop.i c.before.before.args.sizes.now (omega arith)) at (put c.before)

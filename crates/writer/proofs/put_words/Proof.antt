@@ -6,9 +6,9 @@ use borrow.Author.Rules.{rules}
 use native.Mathlib.Omega.{arith}
 use Rattle.files.specs.Bytes.{joined}
 use Rattle.writer.specs.Puts.{Puts}
-use Rattle.writer.proofs.Puts.{puts-stored, puts-length, puts_then}
+use Rattle.writer.proofs.Puts.{puts_stored, puts_length, puts_then}
 use Rattle.files.proofs.Lengths.{word_bytes, words_long}
-use Rattle.writer.proofs.Contents.{joined-more}
+use Rattle.writer.proofs.Contents.{joined_more}
 use Rattle.writer.proofs.put_words.Statement.{statement}
 use Rattle.writer.proofs.put_words.Tie as tie
 
@@ -20,7 +20,7 @@ decreases-loop rows first count file₀ at k₀ file k = count - k
 
 loop-holds : tie.Need-loop-init invariant-loop decreases-loop
 unfolding joined
-loop-holds c = (omega arith, puts-stored [] (omega arith))
+loop-holds c = (omega arith, puts_stored [] (omega arith))
 
 mul-put-word : tie.Need-overflow-mul-put-word invariant-loop decreases-loop
 mul-put-word c = search rules
@@ -38,7 +38,7 @@ shared-slice-read-put-word : tie.Need-shared-slice-read-put-word invariant-loop 
 shared-slice-read-put-word c = search rules
 
 put-word-requires : tie.Need-put-word-requires invariant-loop decreases-loop
-put-word-requires c κs = omega (arith, puts-length c.before.before.before.loop.invariant.1)
+put-word-requires c κs = omega (arith, puts_length c.before.before.before.loop.invariant.1)
 
 add-k : tie.Need-overflow-add-k invariant-loop decreases-loop
 add-k c = search rules
@@ -52,11 +52,11 @@ loop-again c =
     let l = d.before.before.before.before.loop in
     let a = d.before.before.before.before.before.before.before.args in (
       omega arith,
-      puts_then l.invariant.1 (omega (arith, words_long a.rows.now a.first l.k)) (joined-more l.k (word_bytes a.rows.now a.first)) d.put_word.ensures,
+      puts_then l.invariant.1 (omega (arith, words_long a.rows.now a.first l.k)) (joined_more l.k (word_bytes a.rows.now a.first)) d.put_word.ensures,
     )
 
 same_length : tie.Need-same-length invariant-loop decreases-loop
-same_length c = puts-length c.before.loop.invariant.1
+same_length c = puts_length c.before.loop.invariant.1
 
 returns : tie.Need-returns invariant-loop decreases-loop
 returns c =

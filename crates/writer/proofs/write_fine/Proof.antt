@@ -3,8 +3,8 @@ use mathlib.Core.Path.{refl}
 use borrow.Author.Rules.{rules}
 use native.Mathlib.Omega.{arith}
 use Rattle.problem.specs.Tables.{Tables, tables}
-use Rattle.files.proofs.Lengths.{file-long}
-use Rattle.writer.proofs.Answers.{room-refused, file-answered}
+use Rattle.files.proofs.Lengths.{file_long}
+use Rattle.writer.proofs.Answers.{room_refused, file_answered}
 use Rattle.writer.proofs.write_fine.Statement.{statement}
 use Rattle.writer.proofs.write_fine.Tie as tie
 
@@ -33,7 +33,7 @@ add-if1 c = search rules
 returns : tie.Need-returns
 returns c =
     let s = c.before.before.before.before.before in
-    room-refused (T s) s.requires s.args.file.now (omega (arith, file-long (T s) s.requires))
+    room_refused (T s) s.requires s.args.file.now (omega (arith, file_long (T s) s.requires))
 
 put-sizes-requires : tie.Need-put-sizes-requires
 put-sizes-requires c κs = search rules
@@ -56,13 +56,13 @@ add-t11 c = search rules
 same_length : tie.Need-same-length
 same_length c = search rules
 
-returns-2 : tie.Need-returns-2
-returns-2 c =
+returns_2 : tie.Need-returns-2
+returns_2 c =
     let e = c.before.before in
     let p = e.before.before.before.before in
     let z = p.before.before.before.before in
     let s = z.before.before.before.before.before.before.before in
-    file-answered (T s) s.requires s.args.file.now z.put-sizes.ensures p.put-pairs.ensures e.put_four.ensures refl refl
+    file_answered (T s) s.requires s.args.file.now z.put-sizes.ensures p.put-pairs.ensures e.put_four.ensures refl refl
 
 pub write-fine-spec : {M : Type 1} → statement M
 write-fine-spec =
@@ -82,4 +82,4 @@ write-fine-spec =
     put-four-requires
     add-t11
     same_length
-    returns-2)
+    returns_2)

@@ -13,8 +13,8 @@ add-t8 c = search rules
 returns : tie.Need-returns
 returns c = simp (le-leb _ _ c.if1.true)
 
-returns-2 : tie.Need-returns-2
-returns-2 c = simp (lt-leb _ _ c.if1.false)
+returns_2 : tie.Need-returns-2
+returns_2 c = simp (lt-leb _ _ c.if1.false)
 
 pub check-each-spec : {M : Type 1} → statement M
-check-each-spec = tie.close (tie.spec sub-if1 add-t8 returns returns-2)
+check-each-spec = tie.close (tie.spec sub-if1 add-t8 returns returns_2)

@@ -10,8 +10,8 @@ add-t6 c = search rules
 returns : tie.Need-returns
 returns c = simp (lt-ltb _ _ c.if1.true)
 
-returns-2 : tie.Need-returns-2
-returns-2 c = simp (le-ltb _ _ c.if1.false)
+returns_2 : tie.Need-returns-2
+returns_2 c = simp (le-ltb _ _ c.if1.false)
 
 pub trial-spec : {M : Type 1} → statement M
-trial-spec = tie.close (tie.spec add-t6 returns returns-2)
+trial-spec = tie.close (tie.spec add-t6 returns returns_2)

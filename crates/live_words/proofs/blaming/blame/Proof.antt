@@ -4,7 +4,7 @@ use mathlib.Core.List.{List}
 use Prim.Native.Nat.{ℕ, suc}
 use borrow.Author.Rules.{rules}
 use Rattle.problem.specs.Tables.{Tables, tables}
-use Rattle.words.proofs.ChangedOnly.{only-refl}
+use Rattle.words.proofs.ChangedOnly.{only_refl}
 use Rattle.visits.specs.declared.Backward.{Backward}
 use Rattle.live_words.specs.Kept.{BlamesKept}
 use Rattle.live_words.proofs.blaming.blame.Statement.{statement}
@@ -34,17 +34,17 @@ blame-listed-requires c κs =
     (s.pre.0, subst (λ (x : Backward). BlamesKept x (T s) s.args.work.now s.args.i) e.enum-told2.given.1 s.pre.1)
 
 returns : tie.Need-returns
-returns c = let s = entry c.before.before in (blames-as s s.args.work.now (suc s.args.i) c.enum_told.given.1 tt, only-refl _ _ _)
+returns c = let s = entry c.before.before in (blames-as s s.args.work.now (suc s.args.i) c.enum_told.given.1 tt, only_refl _ _ _)
 
 same_length : tie.Need-same-length
 same_length c = search rules
 
-returns-2 : tie.Need-returns-2
-returns-2 c =
+returns_2 : tie.Need-returns-2
+returns_2 c =
     let b = c.before.before in
     let e = b.before.before in
     let s = entry e.before.before in
     (blames-as s b.blame-listed.new.1.1.1.1.0 (suc s.args.i) e.enum-told2.given.1 b.blame-listed.ensures.0, b.blame-listed.ensures.1)
 
 pub blame-spec : {M : Type 1} → statement M
-blame-spec = tie.close (tie.spec enum_told enum-told-2 blame-listed-requires returns same_length returns-2)
+blame-spec = tie.close (tie.spec enum_told enum-told-2 blame-listed-requires returns same_length returns_2)

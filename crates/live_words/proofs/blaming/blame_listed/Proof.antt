@@ -4,7 +4,7 @@ use borrow.Author.Rules.{rules}
 use native.Mathlib.Omega.{arith}
 use Rattle.problem.specs.Tables.{tables}
 use Rattle.words.specs.Layout.{word}
-use Rattle.live_words.proofs.Blamed.{BlamedTo, blamed-none, before_small, blamed-next, blamed-all}
+use Rattle.live_words.proofs.Blamed.{BlamedTo, blamed_none, before_small, blamed_next, blamed_all}
 use Rattle.live_words.proofs.blaming.blame_listed.Statement.{statement}
 use Rattle.live_words.proofs.blaming.blame_listed.Tie as tie
 
@@ -44,7 +44,7 @@ slice-read-pair : tie.Need-slice-read-pair invariant-loop decreases-loop
 slice-read-pair c = search rules
 
 loop-holds : tie.Need-loop-init invariant-loop decreases-loop
-loop-holds c = blamed-none c.before.before.before.before.before.before.requires.0
+loop-holds c = blamed_none c.before.before.before.before.before.before.requires.0
 
 add_at : tie.Need-overflow-add-at invariant-loop decreases-loop
 add_at c = search rules
@@ -102,13 +102,13 @@ loop-again c =
     let m = c.before.before.before.before.before in
     let l = m.before in
     let s = entry l in
-    blamed-next s.pre.0 s.pre.1 l.loop.invariant (omega (arith, m.loop-test.true)) c.with-member-if.result c.with-member-if.ensures
+    blamed_next s.pre.0 s.pre.1 l.loop.invariant (omega (arith, m.loop-test.true)) c.with-member-if.result c.with-member-if.ensures
 
 same_length : tie.Need-same-length invariant-loop decreases-loop
 same_length c = c.before.loop.invariant.only.long
 
 returns : tie.Need-returns invariant-loop decreases-loop
-returns c = let l = c.before in let s = entry l in (blamed-all s.pre.0 s.pre.1 l.loop.invariant c.loop-test.false, l.loop.invariant.only)
+returns c = let l = c.before in let s = entry l in (blamed_all s.pre.0 s.pre.1 l.loop.invariant c.loop-test.false, l.loop.invariant.only)
 
 pub blame-listed-spec : {M : Type 1} → statement M
 blame-listed-spec =

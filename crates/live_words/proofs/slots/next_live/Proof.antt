@@ -3,7 +3,7 @@ use Prim.Native.Nat.{◌/◌, ◌^◌, ◌≤◌}
 use borrow.Author.Rules.{rules}
 use native.Mathlib.Omega.{arith}
 use lib.Count.{count_trailing_zeros, trailing_le}
-use Rattle.live_words.proofs.Words.{below-shifted, at-shifted}
+use Rattle.live_words.proofs.Words.{below_shifted, at_shifted}
 use Rattle.live_words.proofs.slots.next_live.Statement.{statement}
 use Rattle.live_words.proofs.slots.next_live.Tie as tie
 
@@ -22,13 +22,13 @@ cast-result c = omega (arith, few c)
 add-result : tie.Need-overflow-add-result
 add-result c = omega (arith, few c, c.if1.false)
 
-returns-2 : tie.Need-returns-2
-returns-2 c =
+returns_2 : tie.Need-returns-2
+returns_2 c =
     record {
       onward = omega arith;
-      dead = λ k lo hi. below-shifted c.before.args.live c.before.args.from k lo hi;
-      alive = λ l. at-shifted c.before.args.live c.before.args.from (omega arith);
+      dead = λ k lo hi. below_shifted c.before.args.live c.before.args.from k lo hi;
+      alive = λ l. at_shifted c.before.args.live c.before.args.from (omega arith);
     }
 
 pub next-live-spec : {M : Type 1} → statement M
-next-live-spec = tie.close (tie.spec returns shr-result cast-result add-result returns-2)
+next-live-spec = tie.close (tie.spec returns shr-result cast-result add-result returns_2)

@@ -4,10 +4,10 @@ use mathlib.Core.List.{List}
 use Prim.Native.Nat.{ℕ}
 use native.Mathlib.Omega.{arith}
 use Rattle.problem.specs.Tables.{Tables, tables}
-use Rattle.words.proofs.ChangedOnly.{only-widen}
+use Rattle.words.proofs.ChangedOnly.{only_widen}
 use Rattle.moves.specs.declared.Moves.{Moves}
 use Rattle.moves.specs.Prepared.{Prepared}
-use Rattle.moves.proofs.Prepared.{prepared-back, prepared-marking, prepared-looking-ahead}
+use Rattle.moves.proofs.Prepared.{prepared_back, prepared_marking, prepared_looking_ahead}
 use borrow.Author.Rules.{rules}
 use Rattle.moves.proofs.preparing.prepare.Statement.{statement}
 use Rattle.moves.proofs.preparing.prepare.Tie as tie
@@ -52,17 +52,17 @@ returns c =
     let f = c.before.before in
     let n = f.before.before in
     let s = entry n.before.before in
-    prepared-as s n.enum_told.given.1 (prepared-back n.enum_told.given.0.0 s.pre.1.1 (only-widen (omega arith) (omega arith) f.link-back.ensures.1) (T s) f.link-back.ensures.0)
+    prepared-as s n.enum_told.given.1 (prepared_back n.enum_told.given.0.0 s.pre.1.1 (only_widen (omega arith) (omega arith) f.link-back.ensures.1) (T s) f.link-back.ensures.0)
 
 same-length-2 : tie.Need-same-length-2
 same-length-2 c = search rules
 
-returns-2 : tie.Need-returns-2
-returns-2 c =
+returns_2 : tie.Need-returns-2
+returns_2 c =
     let f = c.before.before in
     let n = f.before.before in
     let s = entry n.before.before in
-    prepared-as s n.enum-told2.given.1 (prepared-marking (T s) s.pre.1.1 f.index_back.ensures.0 f.index_back.ensures.1 s.pre.0.fewBoats)
+    prepared-as s n.enum-told2.given.1 (prepared_marking (T s) s.pre.1.1 f.index_back.ensures.0 f.index_back.ensures.1 s.pre.0.few_boats)
 
 same-length-3 : tie.Need-same-length-3
 same-length-3 c = search rules
@@ -73,7 +73,7 @@ returns-3 c =
     let n = f.before.before in
     let s = entry n.before.before in
     prepared-as s n.enum-told3.given.1
-    (prepared-looking-ahead n.enum-told3.given.0.0 s.pre.1.1 (only-widen (omega arith) (omega arith) f.prepare-ahead.ensures.only) (T s) s.pre.0.fewBoats f.prepare-ahead.ensures)
+    (prepared_looking_ahead n.enum-told3.given.0.0 s.pre.1.1 (only_widen (omega arith) (omega arith) f.prepare-ahead.ensures.only) (T s) s.pre.0.few_boats f.prepare-ahead.ensures)
 
 pub prepare-spec : {M : Type 1} → statement M
 prepare-spec =
@@ -88,6 +88,6 @@ prepare-spec =
     same_length
     returns
     same-length-2
-    returns-2
+    returns_2
     same-length-3
     returns-3)

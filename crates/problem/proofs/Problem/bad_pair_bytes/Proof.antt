@@ -10,8 +10,8 @@ mul-result c = search rules
 returns : tie.Need-returns
 returns c = rw (eq-eqb _ _ c.if1.true)
 
-returns-2 : tie.Need-returns-2
-returns-2 c = rw (ne_eqb _ _ c.if1.false)
+returns_2 : tie.Need-returns-2
+returns_2 c = rw (ne_eqb _ _ c.if1.false)
 
 pub bad-pair-bytes-spec : {M : Type 1} → statement M
-bad-pair-bytes-spec = tie.close (tie.spec mul-result returns returns-2)
+bad-pair-bytes-spec = tie.close (tie.spec mul-result returns returns_2)

@@ -6,8 +6,8 @@ use Rattle.problem.proofs.Problem.bad_size.Tie as tie
 returns : tie.Need-returns
 returns c = rw (eq-eqb _ _ c.if1.true)
 
-returns-2 : tie.Need-returns-2
-returns-2 c = rw (ne_eqb _ _ c.if1.false)
+returns_2 : tie.Need-returns-2
+returns_2 c = rw (ne_eqb _ _ c.if1.false)
 
 pub bad-size-spec : {M : Type 1} → statement M
-bad-size-spec = tie.close (tie.spec returns returns-2)
+bad-size-spec = tie.close (tie.spec returns returns_2)

@@ -8,10 +8,10 @@ use native.Mathlib.Omega.{arith}
 use lib.ListN.{length}
 use Rattle.problem.specs.Tables.{tables, listed, start}
 use Rattle.problem.specs.Plans.{keeps}
-use Rattle.problem.proofs.Lowest.{lowest-here, lowest-none}
-use Rattle.problem.proofs.Starts.{start-zero}
+use Rattle.problem.proofs.Lowest.{lowest_here, lowest_none}
+use Rattle.problem.proofs.Starts.{start_zero}
 use Rattle.questions.specs.Questions.{broken}
-use Rattle.questions.proofs.Keeping.{low-named, high-named, row_inside, slot_small, keeps-is, next_row, next-inside}
+use Rattle.questions.proofs.Keeping.{low_named, high_named, row_inside, slot_small, keeps_is, next_row, next_inside}
 use Rattle.questions.proofs.given.lowest_broken.Statement.{statement}
 use Rattle.questions.proofs.given.lowest_broken.Tie as tie
 
@@ -32,16 +32,16 @@ abbrev entry : tie.After-lower-of invariant-loop decreases-loop → tie.Start in
 entry d = (head d).before.before.before.before.before
 
 loop-holds : tie.Need-loop-init invariant-loop decreases-loop
-loop-holds c = (omega arith, sym (start-zero _ _), λ j l. absurd (omega arith))
+loop-holds c = (omega arith, sym (start_zero _ _), λ j l. absurd (omega arith))
 
 lower-of-requires : tie.Need-lower-of-requires invariant-loop decreases-loop
 lower-of-requires c κs = search rules
 
-lower-named : (c : tie.After-lower-of invariant-loop decreases-loop) → c.lower_of.result < length (entry c).args.sizes.now
-lower-named c = low-named (entry c).requires.0 (entry c).requires.1 c.before.loop-test.true c.lower_of.ensures.0
+lower_named_lem : (c : tie.After-lower-of invariant-loop decreases-loop) → c.lower_of.result < length (entry c).args.sizes.now
+lower_named_lem c = low_named (entry c).requires.0 (entry c).requires.1 c.before.loop-test.true c.lower_of.ensures.0
 
 size-of-requires : tie.Need-size-of-requires invariant-loop decreases-loop
-size-of-requires c κs = omega (arith, lower-named c, (entry c).requires.1.complete)
+size-of-requires c κs = omega (arith, lower_named_lem c, (entry c).requires.1.complete)
 
 row_here : (c : tie.After-size-of invariant-loop decreases-loop) → let d = c.before in (head d).loop.start + c.type_size.result < length (entry d).args.rows.now
 row_here c =
@@ -63,7 +63,7 @@ higher-of-requires c κs = search rules
 size-of-requires-2 : tie.Need-size-of-requires-2 invariant-loop decreases-loop
 size-of-requires-2 c κs =
     let d = c.before.before.before in
-    omega (arith, high-named (entry d).requires.0 (entry d).requires.1 d.before.loop-test.true c.higher-of.ensures.0, (entry d).requires.1.complete)
+    omega (arith, high_named (entry d).requires.0 (entry d).requires.1 d.before.loop-test.true c.higher-of.ensures.0, (entry d).requires.1.complete)
 
 bit-requires : tie.Need-bit-requires invariant-loop decreases-loop
 bit-requires c κs =
@@ -80,23 +80,23 @@ kept c =
     let s = h.before.before in
     let d = s.before in
     c.bit.ensures
-    ∙ keeps-is (entry d).requires.0 (entry d).requires.1 d.before.loop-test.true (head d).loop.invariant.1 d.lower_of.ensures.0 s.type_size.ensures.0
+    ∙ keeps_is (entry d).requires.0 (entry d).requires.1 d.before.loop-test.true (head d).loop.invariant.1 d.lower_of.ensures.0 s.type_size.ensures.0
     h.higher-of.ensures.0 c.before.size-of2.ensures.0
 
 returns : tie.Need-returns invariant-loop decreases-loop
 unfolding broken
 returns c =
     let l = c.before.before.before.before.before.before.before.before.loop in
-    sym (lowest-here _ _ l.k (omega arith) l.invariant.2 (ap not (sym (kept c.before)) ∙ c.if1.true))
+    sym (lowest_here _ _ l.k (omega arith) l.invariant.2 (ap not (sym (kept c.before)) ∙ c.if1.true))
 
 size-of-requires-3 : tie.Need-size-of-requires-3 invariant-loop decreases-loop
-size-of-requires-3 c κs = lower-named c.before.before.before.before.before.before
+size-of-requires-3 c κs = lower_named_lem c.before.before.before.before.before.before
 
 add_start : tie.Need-overflow-add-start invariant-loop decreases-loop
 add_start c =
     let d = c.before.before.before.before.before.before.before in
     omega
-    (arith, next-inside (entry d).requires.0 (entry d).requires.1 d.before.loop-test.true (head d).loop.invariant.1 d.lower_of.ensures.0 c.size-of3.ensures.0, (entry d).well-formed)
+    (arith, next_inside (entry d).requires.0 (entry d).requires.1 d.before.loop-test.true (head d).loop.invariant.1 d.lower_of.ensures.0 c.size-of3.ensures.0, (entry d).well-formed)
 
 add-k : tie.Need-overflow-add-k invariant-loop decreases-loop
 add-k c = search rules
@@ -113,9 +113,9 @@ loop-again c =
       below_more _ _ l.inv.2 (ap not (sym (kept c.before.before)) ∙ c.before.if1.false),
     )
 
-returns-2 : tie.Need-returns-2 invariant-loop decreases-loop
+returns_2 : tie.Need-returns-2 invariant-loop decreases-loop
 unfolding broken
-returns-2 c = sym (lowest-none _ _ (λ j h. c.before.loop.invariant.2 j (omega arith)))
+returns_2 c = sym (lowest_none _ _ (λ j h. c.before.loop.invariant.2 j (omega arith)))
 
 pub lowest-broken-spec : {M : Type 1} → statement M
 lowest-broken-spec =
@@ -138,4 +138,4 @@ lowest-broken-spec =
     add-k
     loop-less
     loop-again
-    returns-2)
+    returns_2)

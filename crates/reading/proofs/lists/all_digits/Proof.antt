@@ -35,8 +35,8 @@ loop-again c = tt
 returns : tie.Need-returns invariant-loop decreases-loop
 returns c = search rules
 
-returns-2 : tie.Need-returns-2 invariant-loop decreases-loop
-returns-2 c = search rules
+returns_2 : tie.Need-returns-2 invariant-loop decreases-loop
+returns_2 c = search rules
 
 pub all-digits-spec : {M : Type 1} → statement M
 all-digits-spec =
@@ -52,4 +52,4 @@ all-digits-spec =
     loop-less
     loop-again
     returns
-    returns-2)
+    returns_2)

@@ -4,7 +4,7 @@ use borrow.Author.Rules.{rules}
 use borrow.Author.Tests.{ne_eqb}
 use native.Mathlib.Omega.{arith}
 use lib.Dec.{leb}
-use Rattle.tables.proofs.Ways.{below-lower, below-higher, below-neither}
+use Rattle.tables.proofs.Ways.{below_lower, below_higher, below_neither}
 use Rattle.tables.proofs.pairs.is_equal_or_below.Statement.{statement}
 use Rattle.tables.proofs.pairs.is_equal_or_below.Tie as tie
 
@@ -17,7 +17,7 @@ lower-of-requires-2 c κs = search rules
 returns : tie.Need-returns
 returns c =
     let a = c.before.before.before.before.args in
-    sym (below-lower a.pairs.now a.pair a.before (omega arith))
+    sym (below_lower a.pairs.now a.pair a.before (omega arith))
 
 higher-of-requires : tie.Need-higher-of-requires
 higher-of-requires c κs = search rules
@@ -25,18 +25,18 @@ higher-of-requires c κs = search rules
 higher-of-requires-2 : tie.Need-higher-of-requires-2
 higher-of-requires-2 c κs = search rules
 
-returns-2 : tie.Need-returns-2
-returns-2 c =
+returns_2 : tie.Need-returns-2
+returns_2 c =
     let a = c.before.before.before.before.before.before.before.args in
     ap₂ leb c.before.higher-of.ensures.0 c.higher-of2.ensures.0
-    ∙ sym (below-higher a.pairs.now a.pair a.before (omega arith))
+    ∙ sym (below_higher a.pairs.now a.pair a.before (omega arith))
 
 returns-3 : tie.Need-returns-3
 returns-3 c =
     let a = c.before.before.before.before.before.args in
-    ne_eqb _ _ c.if2.false ∙ sym (below-neither a.pairs.now a.pair a.before (omega arith) (λ e. c.if2.false (omega arith)))
+    ne_eqb _ _ c.if2.false ∙ sym (below_neither a.pairs.now a.pair a.before (omega arith) (λ e. c.if2.false (omega arith)))
 
 pub is-equal-or-below-spec : {M : Type 1} → statement M
 is-equal-or-below-spec =
     tie.close
-    (tie.spec lower-of-requires lower-of-requires-2 returns higher-of-requires higher-of-requires-2 returns-2 returns-3)
+    (tie.spec lower-of-requires lower-of-requires-2 returns higher-of-requires higher-of-requires-2 returns_2 returns-3)

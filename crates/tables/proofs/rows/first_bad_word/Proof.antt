@@ -35,14 +35,14 @@ lower-of-requires c κs = search rules
 size-of-requires : tie.Need-size-of-requires invariant-loop decreases-loop
 size-of-requires c κs =
     let l = c.before.before in
-    rw c.lower_of.ensures.0 ((entry l).requires.lowerNamed l.loop.k c.before.loop-test.true)
+    rw c.lower_of.ensures.0 ((entry l).requires.lower_named l.loop.k c.before.loop-test.true)
 
 -- how many words the pair at hand has
-count-is : (c : tie.After-size-of invariant-loop decreases-loop) → let l = head c in c.type_size.result ≡ size (T l).sizes (lower (T l).pairs l.loop.k)
-count-is c = c.type_size.ensures.0 ∙ ap (size (T (head c)).sizes) c.before.lower_of.ensures.0
+count_is : (c : tie.After-size-of invariant-loop decreases-loop) → let l = head c in c.type_size.result ≡ size (T l).sizes (lower (T l).pairs l.loop.k)
+count_is c = c.type_size.ensures.0 ∙ ap (size (T (head c)).sizes) c.before.lower_of.ensures.0
 
 inside : (c : tie.After-size-of invariant-loop decreases-loop) → let l = head c in l.loop.word + c.type_size.result ≤ length (T l).rows
-inside c = let l = head c in walk_inside l.loop.inv (entry l).pre.rowWords c.before.before.loop-test.true (count-is c)
+inside c = let l = head c in walk_inside l.loop.inv (entry l).pre.row_words c.before.before.loop-test.true (count_is c)
 
 add-to : tie.Need-overflow-add-to invariant-loop decreases-loop
 add-to c = omega (arith, inside c)
@@ -53,7 +53,7 @@ higher-of-requires c κs = search rules
 higher-named : (c : tie.After-higher-of invariant-loop decreases-loop) → c.higher-of.result < boats (T (head c.before))
 higher-named c =
     let l = head c.before in
-    rw c.higher-of.ensures.0 ((entry l).pre.higherNamed l.loop.k c.before.before.before.loop-test.true)
+    rw c.higher-of.ensures.0 ((entry l).pre.higher_named l.loop.k c.before.before.before.loop-test.true)
 
 size-of-requires-2 : tie.Need-size-of-requires-2 invariant-loop decreases-loop
 size-of-requires-2 c κs = higher-named c
@@ -61,7 +61,7 @@ size-of-requires-2 c κs = higher-named c
 first-wide-word-requires : tie.Need-first-wide-word-requires invariant-loop decreases-loop
 first-wide-word-requires c κs =
     let d = c.before.before in
-    (omega arith, (inside d, rw c.size-of2.ensures.0 ((entry (head d)).pre.fewSlots c.before.higher-of.result (higher-named c.before))))
+    (omega arith, (inside d, rw c.size-of2.ensures.0 ((entry (head d)).pre.few_slots c.before.higher-of.result (higher-named c.before))))
 
 -- how many slots its higher boat has
 bits_is : (c : tie.After-size-of2 invariant-loop decreases-loop)
@@ -76,7 +76,7 @@ looked : (c : tie.After-first-wide-word invariant-loop decreases-loop)
 looked c =
     let d = c.before.before.before in
     let l = head d in
-    walk_looks l.loop.inv (entry l).pre.rowWords d.before.before.loop-test.true (count-is d) (bits_is c.before) c.first-wide-word.ensures
+    walk_looks l.loop.inv (entry l).pre.row_words d.before.before.loop-test.true (count_is d) (bits_is c.before) c.first-wide-word.ensures
 
 returns : tie.Need-returns invariant-loop decreases-loop
 returns c = sym ((looked c.before).stops c.if1.true)
@@ -90,8 +90,8 @@ loop-less c = search rules
 loop-again : tie.Need-loop-preserved invariant-loop decreases-loop
 loop-again c = rw add-one ((looked c.before).goes c.if1.false)
 
-returns-2 : tie.Need-returns-2 invariant-loop decreases-loop
-returns-2 c = let l = c.before in sym (walk_ends l.loop.invariant (entry l).requires.rowWords c.loop-test.false)
+returns_2 : tie.Need-returns-2 invariant-loop decreases-loop
+returns_2 c = let l = c.before in sym (walk_ends l.loop.invariant (entry l).requires.row_words c.loop-test.false)
 
 pub first-bad-word-spec : {M : Type 1} → statement M
 first-bad-word-spec =
@@ -110,4 +110,4 @@ first-bad-word-spec =
     add-k
     loop-less
     loop-again
-    returns-2)
+    returns_2)

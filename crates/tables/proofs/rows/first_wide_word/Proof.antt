@@ -7,7 +7,7 @@ use borrow.Author.Rules.{rules}
 use native.Mathlib.Omega.{arith}
 use lib.Dec.{leb}
 use lib.ListN.{get_or}
-use Rattle.problem.proofs.Lowest.{lowestFrom-at}
+use Rattle.problem.proofs.Lowest.{lowest_from_at}
 use Rattle.tables.proofs.rows.first_wide_word.Statement.{statement}
 use Rattle.tables.proofs.rows.first_wide_word.Tie as tie
 
@@ -34,7 +34,7 @@ returns : tie.Need-returns invariant-loop decreases-loop
 returns c =
     let a = c.before.before.before.before.before.before.args in
     let l = c.before.before.before.before.loop in
-    sym (lowestFrom-at _ a.from (a.to - a.from) l.w
+    sym (lowest_from_at _ a.from (a.to - a.from) l.w
     (record {
       from = l.invariant.0;
       upto = omega arith;
@@ -53,11 +53,11 @@ loop-again c =
     let l = c.before.before.before.before.loop in
     (omega arith, omega arith, below_more _ _ l.invariant.2 (λ h. sym c.before.is_IsWide.ensures ∙ c.if1.false))
 
-returns-2 : tie.Need-returns-2 invariant-loop decreases-loop
-returns-2 c =
+returns_2 : tie.Need-returns-2 invariant-loop decreases-loop
+returns_2 c =
     let a = c.before.before.before.args in
     let l = c.before.loop in
-    sym (lowestFrom-at _ a.from (a.to - a.from) a.to
+    sym (lowest_from_at _ a.from (a.to - a.from) a.to
     (record {
       from = omega arith;
       upto = omega arith;
@@ -68,4 +68,4 @@ returns-2 c =
 pub first-wide-word-spec : {M : Type 1} → statement M
 first-wide-word-spec =
     tie.close
-    (tie.spec invariant-loop decreases-loop loop-holds mul-is-wide shared-slice-read-is-wide is-wide-requires returns add-w loop-less loop-again returns-2)
+    (tie.spec invariant-loop decreases-loop loop-holds mul-is-wide shared-slice-read-is-wide is-wide-requires returns add-w loop-less loop-again returns_2)

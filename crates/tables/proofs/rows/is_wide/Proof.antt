@@ -3,7 +3,7 @@ use mathlib.Core.Path.{sym}
 use Prim.Native.Nat.{◌^◌}
 use borrow.Author.Rules.{rules}
 use borrow.Author.Tests.{lt-leb}
-use Rattle.tables.proofs.Words.{shifted-wide}
+use Rattle.tables.proofs.Words.{shifted_wide}
 use Rattle.tables.proofs.rows.is_wide.Statement.{statement}
 use Rattle.tables.proofs.rows.is_wide.Tie as tie
 
@@ -15,8 +15,8 @@ returns c =
 shr-result : tie.Need-overflow-shr-result
 shr-result c = search rules
 
-returns-2 : tie.Need-returns-2
-returns-2 c = shifted-wide c.before.args.word c.before.args.size
+returns_2 : tie.Need-returns-2
+returns_2 c = shifted_wide c.before.args.word c.before.args.size
 
 pub is-wide-spec : {M : Type 1} → statement M
-is-wide-spec = tie.close (tie.spec returns shr-result returns-2)
+is-wide-spec = tie.close (tie.spec returns shr-result returns_2)

@@ -7,20 +7,20 @@ use borrow.Author.Rules.{rules}
 use native.Mathlib.Omega.{arith}
 use lib.Dec.{eqb, ltb}
 use lib.ListN.{length}
-use Rattle.problem.proofs.Lowest.{lowest-here, lowest-none}
-use Rattle.tables.specs.Examination.{badSize}
+use Rattle.problem.proofs.Lowest.{lowest_here, lowest_none}
+use Rattle.tables.specs.Examination.{is_bad_size}
 use Rattle.tables.proofs.sizes.first_bad_size.Statement.{statement}
 use Rattle.tables.proofs.sizes.first_bad_size.Tie as tie
 
 abbrev invariant-loop : tie.invariant-loop
-invariant-loop sizes i₀ i = (i ≤ length sizes) × ((j : ℕ) → j < i → badSize sizes j ≡ false)
+invariant-loop sizes i₀ i = (i ≤ length sizes) × ((j : ℕ) → j < i → is_bad_size sizes j ≡ false)
 
 abbrev decreases-loop : tie.decreases-loop
 decreases-loop sizes i₀ i = length sizes - i
 
 -- the test's answer is the cause at the boat at hand
 told : (c : tie.After-bad-size invariant-loop decreases-loop) →
-    c.bad-size.result ≡ badSize c.before.before.before.before.before.args.sizes.now c.before.before.before.loop.i
+    c.bad-size.result ≡ is_bad_size c.before.before.before.before.before.args.sizes.now c.before.before.before.loop.i
 told c = c.bad-size.ensures ∙ ap (λ (s : ℕ). eqb s 0 || ltb 64 s) c.before.type_size.ensures.0
 
 loop-holds : tie.Need-loop-init invariant-loop decreases-loop
@@ -35,7 +35,7 @@ bad-size-requires c κs = search rules
 returns : tie.Need-returns invariant-loop decreases-loop
 returns c =
     let l = c.before.before.before.before.loop in
-    sym (lowest-here _ _ l.i (omega arith) l.invariant.1 (sym (told c.before) ∙ c.if1.true))
+    sym (lowest_here _ _ l.i (omega arith) l.invariant.1 (sym (told c.before) ∙ c.if1.true))
 
 add-i : tie.Need-overflow-add-i invariant-loop decreases-loop
 add-i c = search rules
@@ -48,11 +48,11 @@ loop-again c =
     let l = c.before.before.before.before.loop in
     (omega arith, below_more _ _ l.invariant.1 (sym (told c.before) ∙ c.if1.false))
 
-returns-2 : tie.Need-returns-2 invariant-loop decreases-loop
-returns-2 c =
+returns_2 : tie.Need-returns-2 invariant-loop decreases-loop
+returns_2 c =
     let l = c.before.loop in
     let e : l.i ≡ length c.before.before.before.args.sizes.now = omega arith in
-    e ∙ sym (lowest-none _ _ (λ j h. l.invariant.1 j (omega arith)))
+    e ∙ sym (lowest_none _ _ (λ j h. l.invariant.1 j (omega arith)))
 
 pub first-bad-size-spec : {M : Type 1} → statement M
 first-bad-size-spec =
@@ -67,4 +67,4 @@ first-bad-size-spec =
     add-i
     loop-less
     loop-again
-    returns-2)
+    returns_2)

@@ -44,8 +44,8 @@ loop-again c = search rules
 returns : tie.Need-returns invariant-loop decreases-loop
 returns c = search rules
 
-returns-2 : tie.Need-returns-2 invariant-loop decreases-loop
-returns-2 c = search rules
+returns_2 : tie.Need-returns-2 invariant-loop decreases-loop
+returns_2 c = search rules
 
 pub questions-spec : {M : Type 1} → statement M
 questions-spec =
@@ -64,4 +64,4 @@ questions-spec =
     loop-less
     loop-again
     returns
-    returns-2)
+    returns_2)

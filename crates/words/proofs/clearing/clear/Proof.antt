@@ -6,7 +6,7 @@ use borrow.Author.Rules.{rules}
 use native.Mathlib.Omega.{arith}
 use lib.ListN.{length, set, length-set}
 use Rattle.words.specs.Layout.{zeroed}
-use Rattle.words.proofs.Zeroed.{zeroed-none, zeroed-more}
+use Rattle.words.proofs.Zeroed.{zeroed_none, zeroed_more}
 use Rattle.words.proofs.clearing.clear.Statement.{statement}
 use Rattle.words.proofs.clearing.clear.Tie as tie
 
@@ -17,7 +17,7 @@ abbrev decreases-loop : tie.decreases-loop
 decreases-loop work₀ k₀ work k = 8192 - k
 
 loop-holds : tie.Need-loop-init invariant-loop decreases-loop
-loop-holds c = (omega arith, refl, zeroed-none _)
+loop-holds c = (omega arith, refl, zeroed_none _)
 
 mul-work : tie.Need-overflow-mul-work invariant-loop decreases-loop
 mul-work c = search rules
@@ -36,7 +36,7 @@ loop-again c =
     let l = c.before.loop in (
       omega arith,
       length-set l.work l.k 0 ∙ l.invariant.1,
-      ap (λ (w : List ℕ). set w l.k 0) l.invariant.2 ∙ zeroed-more l.k c.before.before.args.work.now (omega arith),
+      ap (λ (w : List ℕ). set w l.k 0) l.invariant.2 ∙ zeroed_more l.k c.before.before.args.work.now (omega arith),
     )
 
 same_length : tie.Need-same-length invariant-loop decreases-loop

@@ -10,9 +10,9 @@ use Rattle.words.proofs.Bits.{shl_one, inserted}
 use Rattle.words.proofs.sets.with_member_if.Statement.{statement}
 use Rattle.words.proofs.sets.with_member_if.Tie as tie
 
-inserted-if : (member : Bool) (s h : ℕ) → h < 64 → WithMemberIf member s h (bit_or s (bool_byte member * 2 ^ h % 2 ^ 64))
-inserted-if true s h lt = rw (shl_one h lt) (inserted s h)
-inserted-if false s h lt = rw (zero-mul (2 ^ h)) (or_zero_r s)
+inserted_if : (member : Bool) (s h : ℕ) → h < 64 → WithMemberIf member s h (bit_or s (bool_byte member * 2 ^ h % 2 ^ 64))
+inserted_if true s h lt = rw (shl_one h lt) (inserted s h)
+inserted_if false s h lt = rw (zero-mul (2 ^ h)) (or_zero_r s)
 
 cast-result : tie.Need-overflow-cast-result
 cast-result c = search rules
@@ -21,7 +21,7 @@ shl-result : tie.Need-overflow-shl-result
 shl-result c = search rules
 
 returns : tie.Need-returns
-returns c = inserted-if c.args.member c.args.set c.args.h c.requires
+returns c = inserted_if c.args.member c.args.set c.args.h c.requires
 
 pub with-member-if-spec : {M : Type 1} → statement M
 with-member-if-spec = tie.close (tie.spec cast-result shl-result returns)
