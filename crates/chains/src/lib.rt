@@ -1,4 +1,6 @@
 // For looking ahead: each boat's own pairs, and where the live word before each pair stands, found once a run.
+#![tactic(auto)]
+
 ghost use Rattle.std.specs.Prelude.{◌≡◌, ◌+◌, ◌≤◌, length};
 ghost use Rattle.problem.specs.Rising.{Rising};
 ghost use Rattle.problem.specs.Tables.{Tables, tables};

@@ -1,4 +1,6 @@
 // How a run ends, how that is told, and the plan written to the lent memory.
+#![tactic(auto)]
+
 ghost use Rattle.std.specs.Prelude.{◌≡◌, ◌++◌, ℕ, ◌≤◌, ◌<◌, length, take, drop};
 ghost use Rattle.words.specs.Layout.{word};
 ghost use Rattle.events.specs.declared.Counts.{Counts};

@@ -1,4 +1,6 @@
 // What a search does that is counted, and the counts beside their allowances.
+#![tactic(auto)]
+
 ghost use Rattle.std.specs.Prelude.{◌≡◌, ◌≤◌};
 ghost use Rattle.events.specs.Counts.{fresh, trial_counted, check_counted, checks_counted, with_all_checks};
 

@@ -1,4 +1,6 @@
 // The replies of the operations, each as the numbers that a C caller is handed.
+#![tactic(auto)]
+
 ghost use Rattle.std.specs.Prelude.{◌≡◌};
 ghost use Rattle.problem.specs.Replies.{answer_told, refusal_told};
 ghost use Rattle.problem.specs.declared.Answer.TheVariants.{Undecided};

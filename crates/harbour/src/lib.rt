@@ -1,4 +1,6 @@
 // The functions that a C program links. include/harbour.h declares them; each asks nothing of the tables or of the lent memory's length.
+#![tactic(auto)]
+
 ghost use Rattle.std.specs.Prelude.{◌≡◌};
 ghost use Rattle.problem.specs.Tables.{tables};
 ghost use Rattle.tables.specs.Examination.{examination};

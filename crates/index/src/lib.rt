@@ -1,4 +1,6 @@
 // For looking back: where the rows of each two boats' pair begin, found once a run.
+#![tactic(auto)]
+
 ghost use Rattle.std.specs.Prelude.{◌≡◌, ℕ, ◌+◌, ◌≤◌, ◌<◌, length};
 ghost use Rattle.problem.specs.Tables.{Tables, tables, boats};
 ghost use Rattle.problem.specs.Sane.{Sane};

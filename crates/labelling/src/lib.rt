@@ -1,4 +1,6 @@
 // The forward move: the slots of a boat from one on, until one passes. The words then hold it.
+#![tactic(auto)]
+
 ghost use Rattle.std.specs.Prelude.{◌≡◌};
 ghost use Rattle.problem.specs.Tables.{Tables, tables};
 ghost use Rattle.visits.specs.Visits.{Standing};

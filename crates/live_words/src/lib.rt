@@ -1,4 +1,6 @@
 // The slots of the later boats that the boats placed so far leave live: for each listed pair, those of its higher boat once its lower boat's trial has passed.
+#![tactic(auto)]
+
 ghost use Rattle.std.specs.Prelude.{◌≡◌, [], ◌-◌, ◌^◌, ◌≤◌, length};
 ghost use Rattle.problem.specs.Tables.{Tables, tables};
 ghost use Rattle.problem.specs.Sane.{Sane};

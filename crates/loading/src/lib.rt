@@ -1,4 +1,6 @@
 // The second pass over the bytes of a file: its tables go to lent memory that is long enough for them.
+#![tactic(auto)]
+
 ghost use Rattle.std.specs.Prelude.{◌≡◌, ◌++◌, ◌+◌, ◌*◌, ◌<◌, ◌≤◌, length, get_or, take, drop};
 ghost use Rattle.files.specs.Bytes.{number, words_of};
 ghost use Rattle.loading.specs.Loading.{Loads, Fitting, Filled};

@@ -1,4 +1,6 @@
 // FC and FC-CBJ: a trial looks ahead at the later boats listed with it.
+#![tactic(auto)]
+
 ghost use Rattle.std.specs.Prelude.{◌≡◌, ◌^◌, ◌<◌};
 ghost use Rattle.problem.specs.Tables.{Tables, tables};
 ghost use Rattle.methods.specs.ByPlan.{ahead_by_plan};

@@ -1,4 +1,6 @@
 // BT and CBJ: a trial looks back at the placed boats, in order.
+#![tactic(auto)]
+
 ghost use Rattle.std.specs.Prelude.{◌≡◌, ◌^◌, ◌<◌};
 ghost use Rattle.problem.specs.Tables.{Tables, tables};
 ghost use Rattle.methods.specs.BT.{looking_back};

@@ -1,4 +1,6 @@
 // The looks that all other code makes at the tables.
+#![tactic(auto)]
+
 ghost use Rattle.std.specs.Prelude.{◌≡◌, ℕ, ◌*◌, ◌<◌, ◌≤◌, length};
 ghost use Rattle.problem.specs.Tables.{size, listed, lower, higher, place, start, bit as bit_of};
 ghost use Rattle.problem.specs.Rising.{Rising};

@@ -1,4 +1,6 @@
 // BM: a trial looks back only as far as its mark and the boat's b do not already tell.
+#![tactic(auto)]
+
 ghost use Rattle.std.specs.Prelude.{◌≡◌, pred, ◌+◌, ◌-◌, ◌<◌, length, get_or};
 ghost use Rattle.problem.specs.Tables.{Tables, tables, bit};
 ghost use Rattle.words.specs.Places.{mark_at};

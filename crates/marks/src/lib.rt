@@ -1,4 +1,6 @@
 // BM's marks: what the words hold of them, and b lowered on going back.
+#![tactic(auto)]
+
 ghost use Rattle.std.specs.Prelude.{◌≡◌, ◌≤◌, ◌<◌, length};
 ghost use Rattle.methods.specs.BM.{lowered};
 ghost use Rattle.words.specs.Places.{used, low_at, lows_end};

@@ -1,4 +1,6 @@
 // The moves that a method is made of, and what is made ready before the first.
+#![tactic(auto)]
+
 ghost use Rattle.std.specs.Prelude.{◌≡◌};
 ghost use Rattle.moves.specs.Memory.{moves_of};
 

@@ -1,4 +1,6 @@
 // The operation that people call: run a method on tables, under allowances.
+#![tactic(auto)]
+
 ghost use Rattle.std.specs.Prelude.{◌≡◌};
 ghost use Rattle.problem.specs.Tables.{Tables, tables};
 ghost use Rattle.tables.specs.Examination.{Fine};

@@ -1,4 +1,6 @@
 // The harbour's problem: its limits and methods, and what an operation answers.
+#![tactic(auto)]
+
 ghost use Rattle.std.specs.Prelude.{◌≡◌, ◌||◌, ◌%◌, ltb, eqb};
 ghost use Rattle.problem.specs.Methods.{method_numbered};
 ghost use Rattle.problem.specs.Replies.{refusal_number, refusal_place};

@@ -1,4 +1,6 @@
 // The questions about a given plan and about a pair's rows. Each takes any slices whatever and asks nothing of its caller.
+#![tactic(auto)]
+
 ghost use Rattle.std.specs.Prelude.{◌≡◌};
 ghost use Rattle.problem.specs.Tables.{tables};
 ghost use Rattle.questions.specs.Questions.{lawful_question, broken_question, rows_shown, shown_rows};

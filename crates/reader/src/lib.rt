@@ -1,4 +1,6 @@
 // What is asked of a file: its tables, read and examined; and the desk's question, whether a plan is lawful by it. Both take any bytes and any lent memory, and ask nothing of their caller.
+#![tactic(auto)]
+
 ghost use Rattle.std.specs.Prelude.{◌≡◌, ◌≤◌, length, take};
 ghost use Rattle.problem.specs.Tables.{tables};
 ghost use Rattle.tables.specs.Examination.{examination};

@@ -1,4 +1,6 @@
 // Lines of fields, as a text holds them. What is not of that form is misread, and not refused.
+#![tactic(auto)]
+
 mod digits;
 mod lines;
 mod lists;

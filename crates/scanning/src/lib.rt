@@ -1,4 +1,6 @@
 // The first of two passes over the bytes of a file: the first fault in them, or how much is in its tables.
+#![tactic(auto)]
+
 ghost use Rattle.std.specs.Prelude.{◌≡◌, [], ◌∷◌, ◌+◌, ◌<◌, ◌≤◌, length, get_or, take, drop};
 ghost use Rattle.files.specs.Reading.{same, reading};
 ghost use Rattle.scanning.specs.Replies.{reading_told, contents_told};

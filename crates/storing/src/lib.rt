@@ -1,4 +1,6 @@
 // What a visit begins with and leaves in the words.
+#![tactic(auto)]
+
 ghost use Rattle.std.specs.Prelude.{◌≡◌, ◌≤◌, ◌<◌, length};
 ghost use Rattle.words.specs.Places.{used};
 ghost use Rattle.storing.specs.Stored.{passed_words, set_stored, kept_words, set_begun_with};

@@ -1,4 +1,6 @@
 // A trial's way over the later boats that are listed with it.
+#![tactic(auto)]
+
 ghost use Rattle.std.specs.Prelude.{◌≡◌, ◌≤◌, ◌<◌, length, take};
 ghost use Rattle.problem.specs.Tables.{Tables, tables, boats};
 ghost use Rattle.events.specs.Counts.{Fits};

@@ -1,4 +1,6 @@
 // The backward move: where a boat with no slot left goes.
+#![tactic(auto)]
+
 ghost use Rattle.std.specs.Prelude.{◌≡◌, ◌^◌, ◌≤◌, ◌<◌, length};
 ghost use Rattle.problem.specs.Tables.{Tables, tables};
 ghost use Rattle.words.specs.Places.{used};

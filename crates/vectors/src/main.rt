@@ -1,4 +1,6 @@
 // Answers the stored problems of the second program, a line for a line. The file stdout has the second program's replies, so the gate fails where the two programs differ. Both forms of lines stand in outside/second/src/stored/mod.rs. A line that is not of that form is misread and not refused: its reply differs then.
+#![tactic(auto)]
+
 mod files;
 mod given;
 mod group;

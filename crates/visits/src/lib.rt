@@ -1,4 +1,6 @@
 // A visit of a boat: what every method's forward move is made of, and where it leads.
+#![tactic(auto)]
+
 ghost use Rattle.std.specs.Prelude.{◌≡◌, ◌<◌};
 ghost use Rattle.problem.specs.Tables.{bit};
 ghost use Rattle.events.specs.Counts.{check_counted};

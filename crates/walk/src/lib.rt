@@ -1,4 +1,6 @@
 // The walk of a search: forward while a slot passes; where none is left, back as the method says.
+#![tactic(auto)]
+
 ghost use Rattle.std.specs.Prelude.{◌≡◌, ◌≤◌, ◌<◌, length};
 ghost use Rattle.problem.specs.Tables.{Tables, tables};
 ghost use Rattle.words.specs.Places.{used};

@@ -1,4 +1,6 @@
 // The working words: where a run keeps what it remembers. docs/WORDS.md has the layout.
+#![tactic(auto)]
+
 mod clearing;
 mod places;
 mod sets;

@@ -1,4 +1,6 @@
 // The writer of a file: the examination, then 26, then the bytes. It takes any tables and any lent memory, and asks nothing of its caller.
+#![tactic(auto)]
+
 ghost use Rattle.std.specs.Prelude.{◌≡◌, [], ◌∷◌, ◌+◌, ◌*◌, ◌%◌, ◌<◌, ◌≤◌, length, get_or};
 ghost use Rattle.problem.specs.Tables.{Tables, tables, listed};
 ghost use Rattle.problem.specs.Sane.{Sane};
