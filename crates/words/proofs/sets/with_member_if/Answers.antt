@@ -7,21 +7,11 @@ use lib.Bits.{bit_or, or_zero_r}
 use mir.Val.{bool_byte}
 use Rattle.words.specs.Sets.{WithMemberIf}
 use Rattle.words.proofs.Bits.{shl_one, inserted}
-use Rattle.words.proofs.sets.with_member_if.Statement.{statement}
-use Rattle.words.proofs.sets.with_member_if.Tie as tie
+use Rattle.words.proofs.sets.with_member_if.Goals as goal
 
 inserted_if : (member : Bool) (s h : ℕ) → h < 64 → WithMemberIf member s h (bit_or s (bool_byte member * 2 ^ h % 2 ^ 64))
 inserted_if true s h lt = rw (shl_one h lt) (inserted s h)
 inserted_if false s h lt = rw (zero-mul (2 ^ h)) (or_zero_r s)
 
-cast-result : tie.Need-overflow-cast-result
-cast-result c = search rules
-
-shl-result : tie.Need-overflow-shl-result
-shl-result c = search rules
-
-returns : tie.Need-returns
+pub returns : goal.returns
 returns c = inserted_if c.args.member c.args.set c.args.h c.requires
-
-pub with-member-if-spec : {M : Type 1} → statement M
-with-member-if-spec = tie.close (tie.spec cast-result shl-result returns)
