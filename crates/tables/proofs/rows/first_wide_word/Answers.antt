@@ -1,0 +1,35 @@
+-- No word passed is wide.
+use mathlib.Core.Path.{◌≡◌, sym, ◌∙◌}
+use mathlib.Core.Bool.{false}
+use Prim.Native.Nat.{ℕ, ◌-◌, ◌^◌, ◌≤◌, ◌<◌}
+use borrow.Author.Count.{below_more}
+use borrow.Author.Rules.{rules}
+use native.Mathlib.Omega.{arith}
+use lib.Dec.{leb}
+use lib.ListN.{get_or}
+use Rattle.problem.proofs.Lowest.{lowest_from_at}
+use Rattle.tables.proofs.rows.first_wide_word.Goals as goal
+
+pub returns-then-is_wide : goal.returns-then-is_wide
+returns-then-is_wide c =
+    let a = c.args in
+    let l = c.loop-w in
+    sym (lowest_from_at _ a.from (a.to - a.from) l.w
+    (record {
+      from = l.invariant.0;
+      upto = omega arith;
+      fails = λ j h i. l.invariant.2 j i h;
+      passes = λ h. sym c.is_IsWide.ensures ∙ c.if-is_wide.true;
+    }))
+
+pub returns : goal.returns
+returns c =
+    let a = c.args in
+    let l = c.loop-w in
+    sym (lowest_from_at _ a.from (a.to - a.from) a.to
+    (record {
+      from = omega arith;
+      upto = omega arith;
+      fails = λ j h i. l.invariant.2 j (omega arith) h;
+      passes = λ h. absurd (omega arith);
+    }))
