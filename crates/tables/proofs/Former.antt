@@ -14,7 +14,7 @@ use Rattle.problem.specs.Replies.{Told, refused}
 use Rattle.problem.proofs.Lowest.{not_both}
 use Rattle.problem.proofs.Places.{both_true}
 use Rattle.tables.specs.Tests.{Fault, first_fault, says}
-use Rattle.tables.specs.Applies.{NoneApplies, none, nor, Gives, here, later}
+use Rattle.tables.specs.Applies.{NoneApplies, nor, Gives, here, later}
 use Rattle.tables.specs.Examination.{equal_or_below, not_rising, ways_bad, first_way_bad, tests, fine_told, examination}
 use Rattle.tables.specs.Former.{is_above, not_above_pair_before, bad_pair, former_tests, former_examination, of_pairs, as_formerly}
 use Rattle.tables.proofs.Bools.{or_here, or_rest, or_neither, neither_or}
@@ -128,6 +128,7 @@ module _ (t : Tables) where
       later a (later b (later c (later (λ k l. sym (same k) ∙ d k l) (here k l p f))))
   gives_formerly (later a (later b (later c (later d (later e (here k l p f)))))) =
       later a (later b (later c (later (λ k l. sym (same k) ∙ d k l) (later e (here k l p f)))))
+  gives_formerly {w = w} (later a (later b (later c (later d (later e (later _ x28)))))) = elim x28 [ ]
 
   pub told_as_formerly : former_examination t ≡ as_formerly (examination t)
   unfolding former_examination examination
@@ -146,6 +147,7 @@ module _ (t : Tables) where
       not_both (way_of_pair (boats t) t.pairs k p).0 (ap of_pairs e)
   not_5 (later a (later b (later c (later d (here k l p f))))) e = eqb-false 106 105 refl e
   not_5 (later a (later b (later c (later d (later g (here k l p f)))))) e = eqb-false 107 105 refl e
+  not_5 {w = w} (later a (later b (later c (later d (later g (later _ x29)))))) e = elim x29 [ ]
 
   pub never_5 : (examination t).number ≡ 105 → ⊥
   unfolding examination

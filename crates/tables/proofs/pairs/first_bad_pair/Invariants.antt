@@ -1,16 +1,9 @@
 -- Every pair passed is good.
-use mathlib.Core.Path.{◌≡◌, subst}
+use mathlib.Core.Path.{◌≡◌}
 use mathlib.Core.Bool.{false}
 use Prim.Native.Nat.{ℕ, ◌-◌, ◌≤◌, ◌<◌}
-use borrow.Author.Count.{below_more}
-use borrow.Author.Rules.{rules}
-use native.Mathlib.Omega.{arith}
 use Rattle.problem.specs.Tables.{listed}
-use Rattle.tables.specs.declared.pairs.Way.{Way}
-use Rattle.tables.specs.Tests.{Test, each_way}
 use Rattle.tables.specs.Examination.{first_way_bad}
-use Rattle.tables.specs.Ways.{IsWay}
-use Rattle.tables.proofs.Ways.{way_first, way_nowhere}
 use Rattle.tables.proofs.pairs.first_bad_pair.Given as goal
 
 abbrev pub invariant-loop-k : goal.invariant-loop-k

@@ -1,6 +1,5 @@
 -- The code's tests are those of the definition, in its order.
 use mathlib.Core.Path.{sym, ◌∙◌}
-use borrow.Author.Rules.{rules}
 use native.Mathlib.Omega.{arith}
 use Rattle.tables.proofs.Ways.{way_51_lower, way_51_higher, way_52, way_53, way_54, way_good}
 use Rattle.tables.proofs.pairs.way_bad.Goals as goal

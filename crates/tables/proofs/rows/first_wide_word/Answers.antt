@@ -1,12 +1,7 @@
 -- No word passed is wide.
-use mathlib.Core.Path.{◌≡◌, sym, ◌∙◌}
-use mathlib.Core.Bool.{false}
-use Prim.Native.Nat.{ℕ, ◌-◌, ◌^◌, ◌≤◌, ◌<◌}
-use borrow.Author.Count.{below_more}
-use borrow.Author.Rules.{rules}
+use mathlib.Core.Path.{sym, ◌∙◌}
+use Prim.Native.Nat.{◌-◌}
 use native.Mathlib.Omega.{arith}
-use lib.Dec.{leb}
-use lib.ListN.{get_or}
 use Rattle.problem.proofs.Lowest.{lowest_from_at}
 use Rattle.tables.proofs.rows.first_wide_word.Goals as goal
 
@@ -19,7 +14,7 @@ returns-then-is_wide c =
       from = l.invariant.0;
       upto = omega arith;
       fails = λ j h i. l.invariant.2 j i h;
-      passes = λ h. sym c.is_IsWide.ensures ∙ c.if-is_wide.true;
+      passes = λ h. sym c.is_wide.ensures ∙ c.if-is_wide.true;
     }))
 
 pub returns : goal.returns

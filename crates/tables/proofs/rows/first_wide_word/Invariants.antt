@@ -1,13 +1,9 @@
 -- No word passed is wide.
-use mathlib.Core.Path.{◌≡◌, sym, ◌∙◌}
+use mathlib.Core.Path.{◌≡◌}
 use mathlib.Core.Bool.{false}
 use Prim.Native.Nat.{ℕ, ◌-◌, ◌^◌, ◌≤◌, ◌<◌}
-use borrow.Author.Count.{below_more}
-use borrow.Author.Rules.{rules}
-use native.Mathlib.Omega.{arith}
 use lib.Dec.{leb}
 use lib.ListN.{get_or}
-use Rattle.problem.proofs.Lowest.{lowest_from_at}
 use Rattle.tables.proofs.rows.first_wide_word.Given as goal
 
 abbrev pub invariant-loop-w : goal.invariant-loop-w

@@ -1,8 +1,4 @@
 -- No word has a bit at or above 64; below that the shift tells.
-use mathlib.Core.Path.{sym}
-use Prim.Native.Nat.{◌^◌}
-use borrow.Author.Rules.{rules}
-use borrow.Author.Tests.{lt-leb}
 use Rattle.tables.proofs.Words.{shifted_wide}
 use Rattle.tables.proofs.rows.is_wide.Goals as goal
 

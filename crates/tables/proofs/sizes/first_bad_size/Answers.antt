@@ -1,9 +1,7 @@
 -- Every boat passed has a good size.
 use mathlib.Core.Path.{◌≡◌, sym, ap, ◌∙◌}
-use mathlib.Core.Bool.{false, ◌||◌}
-use Prim.Native.Nat.{ℕ, ◌-◌, ◌≤◌, ◌<◌}
-use borrow.Author.Count.{below_more}
-use borrow.Author.Rules.{rules}
+use mathlib.Core.Bool.{◌||◌}
+use Prim.Native.Nat.{ℕ}
 use native.Mathlib.Omega.{arith}
 use lib.Dec.{eqb, ltb}
 use lib.ListN.{length}
@@ -11,15 +9,12 @@ use Rattle.problem.proofs.Lowest.{lowest_here, lowest_none}
 use Rattle.tables.specs.Examination.{is_bad_size}
 use Rattle.tables.proofs.sizes.first_bad_size.Goals as goal
 
--- the test's answer is the cause at the boat at hand
-told : (c : goal.After-bad_size) →
-    c.bad_size.result ≡ is_bad_size c.args.sizes.now c.loop-i.i
-told c = c.bad_size.ensures ∙ ap (λ (s : ℕ). eqb s 0 || ltb 64 s) c.size_of.ensures.0
-
 pub returns-then-bad_size : goal.returns-then-bad_size
 returns-then-bad_size c =
     let l = c.loop-i in
-    sym (lowest_here _ _ l.i (omega arith) l.invariant.1 (sym (told c) ∙ c.if-bad_size.true))
+    let told : c.bad_size.result ≡ is_bad_size c.args.sizes.now l.i =
+    c.bad_size.ensures ∙ ap (λ (s : ℕ). eqb s 0 || ltb 64 s) c.size_of.ensures.0 in
+    sym (lowest_here _ _ l.i (omega arith) l.invariant.1 (sym told ∙ c.if-bad_size.true))
 
 pub returns : goal.returns
 returns c =

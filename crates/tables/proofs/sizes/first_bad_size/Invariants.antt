@@ -1,13 +1,8 @@
 -- Every boat passed has a good size.
-use mathlib.Core.Path.{◌≡◌, sym, ap, ◌∙◌}
-use mathlib.Core.Bool.{false, ◌||◌}
+use mathlib.Core.Path.{◌≡◌}
+use mathlib.Core.Bool.{false}
 use Prim.Native.Nat.{ℕ, ◌-◌, ◌≤◌, ◌<◌}
-use borrow.Author.Count.{below_more}
-use borrow.Author.Rules.{rules}
-use native.Mathlib.Omega.{arith}
-use lib.Dec.{eqb, ltb}
 use lib.ListN.{length}
-use Rattle.problem.proofs.Lowest.{lowest_here, lowest_none}
 use Rattle.tables.specs.Examination.{is_bad_size}
 use Rattle.tables.proofs.sizes.first_bad_size.Given as goal
 
