@@ -12,3 +12,4 @@ pub mod Reader
 pub mod Writer
 pub mod Theorems
 pub mod Wrong
+pub mod Cases

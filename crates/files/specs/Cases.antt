@@ -1,16 +1,13 @@
--- Files worked out by hand, and what the definitions say of them. (Document 02, No. 2.)
-use Rattle.std.specs.Prelude.{◌≡◌, refl, List, [], ◌∷◌, ◌++◌, map, ℕ}
-use Rattle.problem.specs.Lowest.{lowest_from, lowest, sum}
+-- Files worked out by hand, and what is to come of each. (Document 02, No. 2. What the definitions say of them is computed in proofs/Cases.antt.)
+use Rattle.std.specs.Prelude.{List, [], ◌∷◌, ◌++◌, ℕ}
+use Rattle.problem.specs.Lowest.{sum}
 use Rattle.problem.specs.Tables.{Tables, tables, start}
 use Rattle.problem.specs.Replies.{Told, told, refused}
-use Rattle.tables.specs.Tests.{first_of}
-use Rattle.tables.specs.Examination.{first_way_bad, bad_word, pair_of_word, examination}
-use Rattle.questions.specs.Questions.{broken, lawful_question}
 use Rattle.files.specs.Bytes.{bytes_of, number, words_of, joined}
 use Rattle.files.specs.File.{SZ, PR, ED, sizes_record, pair_record, end_record, file_of}
 use Rattle.files.specs.Reading.{Reading, fault, read, sizes_rest, words_rest, pair_rest, end_rest, same, after_mark, read_rest, read_records, read_from, reading, nothing}
 use Rattle.files.specs.Rooms.{Rooms, rooms}
-use Rattle.files.specs.Reader.{Result, read_result, desk_result}
+use Rattle.files.specs.Reader.{Result}
 
 -- what is written, and what is read. (To unfold these is to unfold all that their lines name)
 unfoldable pub written : Tables → List ℕ
@@ -31,21 +28,9 @@ two_file =
     ∷ 0x50 ∷ 0x52 ∷ 0x00 ∷ 0x01 ∷ 0x01 ∷ 0x00 ∷ 0x00 ∷ 0x00 ∷ 0x00 ∷ 0x00 ∷ 0x00 ∷ 0x00
     ∷ 0x45 ∷ 0x44 ∷ 0x01 ∷ 0x00 ∷ []
 
-pub two_written : written two ≡ two_file
-unfolding written
-two_written = refl
-
-pub two_read : means two_file ≡ read two
-unfolding means
-two_read = refl
-
 -- two slots below one: a word for each slot of the lower boat
 abbrev pub wide : Tables
 wide = tables (2 ∷ 1 ∷ []) (0 ∷ 1 ∷ []) (1 ∷ 0x0302 ∷ [])
-
-pub wide_written : written wide ≡ SZ ++ (2 ∷ 2 ∷ 1 ∷ (PR ++ (0 ∷ 1 ∷ 1 ∷ 0 ∷ 0 ∷ 0 ∷ 0 ∷ 0 ∷ 0 ∷ 0 ∷ 2 ∷ 3 ∷ 0 ∷ 0 ∷ 0 ∷ 0 ∷ 0 ∷ 0 ∷ (ED ++ (1 ∷ 0 ∷ [])))))
-unfolding written
-wide_written = refl
 
 -- ---- a file, and what is to come of it
 pub record Case : Type 0 where
@@ -101,10 +86,6 @@ file_cases =
     ∷ case (sizes2 ++ (pair_of 0 1 2 ++ (pair_of 0 1 2 ++ end_of 2 0))) (read (tables (1 ∷ 1 ∷ []) (0 ∷ 1 ∷ 0 ∷ 1 ∷ []) (2 ∷ 2 ∷ [])))
     ∷ []
 
-pub files_mean : map (λ c. means c.file) file_cases ≡ map (λ c. c.expected) file_cases
-unfolding means file_cases
-files_mean = refl
-
 -- ---- a file read into lent memory, and all that is to come of it
 pub record ReadCase : Type 0 where
   pub file : List ℕ
@@ -137,10 +118,6 @@ read_cases =
     ∷ read_case (two_file ++ (0 ∷ [])) (rooms (7 ∷ []) [] []) (leaves (refused 25 21) 0 0 0 (rooms (7 ∷ []) [] []))
     ∷ []
 
-pub files_read : map (λ c. read_result c.file c.lent) read_cases ≡ map (λ c. c.left) read_cases
-unfolding read_result means read_cases examination first_of lowest lowest_from start sum first_way_bad bad_word pair_of_word
-files_read = refl
-
 -- ---- the desk's question of a file and a plan, with memory enough for two boats, one pair and one row, and its answer
 pub record DeskCase : Type 0 where
   pub file : List ℕ
@@ -166,7 +143,3 @@ desk_cases =
     ∷ desk_case (SZ ++ (3 ∷ 1 ∷ 1 ∷ 1 ∷ end_of 0 0)) [] (refused 26 0)
     ∷ desk_case slotless [] (refused 3 0)
     ∷ []
-
-pub desk_asked : map (λ c. (desk_result c.file c.given enough).answer) desk_cases ≡ map (λ c. c.answer) desk_cases
-unfolding desk_result means desk_cases lawful_question broken examination first_of lowest lowest_from start sum first_way_bad bad_word pair_of_word
-desk_asked = refl

@@ -24,3 +24,4 @@ pub mod SameMoves
 pub mod AheadSame
 pub mod Shown
 pub mod Theorems
+pub mod Cases

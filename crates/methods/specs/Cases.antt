@@ -1,6 +1,6 @@
 -- The thirteen harbour cases that are proved, as one table; and a second table, of cases that tell apart definitions which the harbour cases do not.
--- (Document 01, 'Harbour cases' and 'What the promises hold down'.) Both are computed from the definitions.
-use Rattle.std.specs.Prelude.{◌≡◌, refl, List, [], ◌∷◌, map, ℕ, ◌-◌, ◌^◌}
+-- (Document 01, 'Harbour cases' and 'What the promises hold down'. What the definitions say of them is computed in proofs/Cases.antt.)
+use Rattle.std.specs.Prelude.{List, [], ◌∷◌, ℕ, ◌-◌, ◌^◌}
 use Rattle.problem.specs.Lowest.{lowest_from, lowest, sum}
 use Rattle.problem.specs.Tables.{Tables, tables as tables_of, place, is_listed, start, allowed}
 use Rattle.problem.specs.declared.Method.{Method}
@@ -66,10 +66,6 @@ harbour_cases =
     ∷ case Bt D 9 ample (undecided Checks) 9 10
     ∷ case Bt D ample 9 (undecided Trials) 9 9
     ∷ []
-
-pub thirteen : map comes_of harbour_cases ≡ map (λ k. k.expected) harbour_cases
-unfolding comes_of harbour_cases
-thirteen = refl
 
 -- ---- what the harbour cases do not see
 -- BM with marks of listed boats only says 'no plan' here
@@ -179,7 +175,3 @@ further_cases =
     ∷ case Fc W7 ample ample (decided no_plan) 9 5
     ∷ case FcCbj W7 ample ample (decided no_plan) 7 4
     ∷ []
-
-pub further : map comes_of further_cases ≡ map (λ k. k.expected) further_cases
-unfolding comes_of further_cases
-further = refl

@@ -8,3 +8,4 @@ pub mod Fine
 pub mod Replies
 pub mod Former
 pub mod Wrong
+pub mod Cases

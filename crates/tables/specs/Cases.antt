@@ -1,9 +1,9 @@
--- Bad pairs of four boats with one slot each, and what No. 1 of document 02 says of them; computed from the definitions.
+-- Bad pairs of four boats with one slot each, and what No. 1 of document 02 says of them. (What the definitions say is computed in proofs/Cases.antt.)
 -- No row is there, so that number 6 applies too, but where the first boat of the only pair does not exist.
-use Rattle.std.specs.Prelude.{◌≡◌, refl, List, [], ◌∷◌, map, ℕ}
+use Rattle.std.specs.Prelude.{List, [], ◌∷◌, ℕ}
 use Rattle.problem.specs.Lowest.{lowest_from, lowest, sum}
 use Rattle.problem.specs.Tables.{tables, start}
-use Rattle.problem.specs.Replies.{Told, refused}
+use Rattle.problem.specs.Replies.{Told}
 use Rattle.tables.specs.Tests.{first_of}
 use Rattle.tables.specs.Examination.{first_way_bad, examination}
 
@@ -49,7 +49,3 @@ bad_pairs =
     ∷ case 53 0 (1 ∷ 0 ∷ 9 ∷ 9 ∷ [])
     ∷ case 54 4 (0 ∷ 1 ∷ 1 ∷ 2 ∷ 0 ∷ 2 ∷ 9 ∷ 9 ∷ [])
     ∷ []
-
-pub bad_pairs_said : map said_of bad_pairs ≡ map (λ c. refused c.number c.byte) bad_pairs
-unfolding said_of bad_pairs
-bad_pairs_said = refl
