@@ -1,12 +1,7 @@
 -- The index holds the pairs passed.
-use mathlib.Core.Path.{◌≡◌, ap, ◌∙◌}
-use Prim.Native.Nat.{◌+◌, ◌-◌, ◌<◌}
-use borrow.Author.Rules.{rules}
-use native.Mathlib.Omega.{arith}
-use Rattle.problem.specs.Tables.{tables, size, listed}
-use Rattle.problem.proofs.Places.{lower_named_lem}
-use Rattle.words.specs.Places.{tri}
-use Rattle.index.proofs.Back.{index_place, BackTo, index_place_lt, back_none, back_few, back_more, back_all}
+use Prim.Native.Nat.{◌-◌}
+use Rattle.problem.specs.Tables.{tables, listed}
+use Rattle.index.proofs.Back.{BackTo}
 use Rattle.index.proofs.index_back.Given as goal
 
 abbrev pub invariant-loop-k : goal.invariant-loop-k

@@ -1,30 +1,13 @@
--- The boats passed have their links, and the later ones still their index rows.
-use mathlib.Core.Path.{◌∙◌}
-use Prim.Native.Nat.{◌-◌, ◌≤◌}
-use borrow.Author.Rules.{rules}
-use native.Mathlib.Omega.{arith}
-use lib.ListN.{length, length-set}
-use Rattle.problem.specs.Tables.{tables}
-use Rattle.words.proofs.ChangedOnly.{only_trans, only_set, only_widen}
-use Rattle.index.proofs.Linked.{LinkedTo, linked_none, linked_at, linked_more, linked_all}
+use Rattle.std.proofs.Common.{◌≤◌, length, sym, subst, arith}
+use lib.ListN.{length-set}
+use Rattle.problem.specs.Sane.{Sane}
+use Rattle.words.specs.Links.{Links}
+use Rattle.index.proofs.Linked.{linked_more}
 use Rattle.index.proofs.link_back.Goals as goal
-
--- THE PLACES: the function's entry, seen from the first place that the code reaches; the index filled, and the entry, seen from the head of the loop
-abbrev entry : goal.After-index_back-arg-1 → goal.Start
-entry c = c
-
-abbrev indexed : goal.At-loop-i → goal.After-index_back
-indexed l = l
-
-abbrev S : goal.At-loop-i → goal.Start
-S l = entry (indexed l)
-
--- no call makes the words more or fewer
-long : (l : goal.At-loop-i) → 8192 ≤ length l.loop-i.work-1
-long l = omega (arith, simp length-set at l.loop-i.invariant.only.long, (indexed l).index_back.ensures.1.long)
 
 pub loop-i-preserved : goal.loop-i-preserved
 loop-i-preserved g c =
-    let l = c in
-    let e = c.link_boat_lem.ensures in
-    linked_more (S l).requires.0 l.loop-i.invariant (omega arith) (long l) e.0 e.1
+    let l = c.link_boat-at in
+    let long : 8192 ≤ length c.loop-i.work = omega (arith, simp length-set at c.loop-i.invariant.only.long, c.index_back.ensures.changed_only.long) in
+    let made = subst (λ t. Links t l.new.work c.loop-i.i c.loop-i.i 0 c.loop-i.at l.result) (sym c.requires.0) l.ensures.upper_bound.1 in
+    linked_more (subst Sane (sym c.requires.0) c.requires.1.0) c.loop-i.invariant (omega arith) long (l.ensures.upper_bound.0, made) l.ensures.changed_only

@@ -1,12 +1,8 @@
 -- The boats passed have their links, and the later ones still their index rows.
-use mathlib.Core.Path.{◌∙◌}
-use Prim.Native.Nat.{◌-◌, ◌≤◌}
-use borrow.Author.Rules.{rules}
-use native.Mathlib.Omega.{arith}
-use lib.ListN.{length, length-set}
+use Prim.Native.Nat.{◌-◌}
+use lib.ListN.{length}
 use Rattle.problem.specs.Tables.{tables}
-use Rattle.words.proofs.ChangedOnly.{only_trans, only_set, only_widen}
-use Rattle.index.proofs.Linked.{LinkedTo, linked_none, linked_at, linked_more, linked_all}
+use Rattle.index.proofs.Linked.{LinkedTo}
 use Rattle.index.proofs.link_back.Given as goal
 
 abbrev pub invariant-loop-i : goal.invariant-loop-i

@@ -1,76 +1,70 @@
--- The boats passed have their links, and the row's later words are as they were.
-use mathlib.Core.Logic.{⊎_elim}
-use Prim.Native.Nat.{◌+◌, ◌-◌, ◌≤◌, ◌<◌}
-use borrow.Author.Rules.{rules}
-use native.Mathlib.Omega.{arith}
-use lib.ListN.{length}
-use Rattle.problem.specs.Tables.{tables}
-use Rattle.words.specs.Layout.{word}
+use Rattle.std.proofs.Common.{◌≡◌, ◌+◌, ◌≤◌, ◌<◌, length, sym, subst, arith}
+use Rattle.problem.specs.Sane.{Sane}
+use Rattle.words.specs.Places.{index_at}
+use Rattle.words.specs.Layout.{word, index_of}
+use Rattle.words.specs.Links.{Links}
 use Rattle.words.proofs.Triangle.{tri_small}
-use Rattle.index.proofs.Linking.{RowTo, row_none, row_bounds, row_index_few, row_past, row_link, row_all}
+use Rattle.index.proofs.Linking.{row_none, row_bounds, row_index_few, row_past, row_link, row_all}
+use Rattle.index.proofs.link_boat.Given.{Over}
 use Rattle.index.proofs.link_boat.Goals as goal
-
--- THE PLACES: the function's entry, seen from the first place that the code reaches and from the head of the loop
-abbrev entry : goal.After-row_at-row → goal.Start
-entry c = c
-
-abbrev S : goal.At-loop-h → goal.Start
-S l = entry l
+use Rattle.index.proofs.link_boat.Goals.{In-loop-h, Then-index-ne0, then-index-ne0, else-index-ne0}
 
 pub loop-h-init : goal.loop-h-init
 loop-h-init g c = row_none _ _ _
 
 -- the word read and the word written are words of the index
-within : (c : goal.In-loop-h)
+within : (g : Over) (c : In-loop-h g)
     → let l = c.loop-h in
     (c.row_at-row.result + l.h < length l.work) × (512 + l.to < length l.work) × (c.row_at-row.result + l.h < 4096) × (512 + l.to < 4096)
-within c =
-    let l = c in
-    omega (arith, tri_small (S l).args.i (omega arith), row_bounds l.loop-h.invariant, l.loop-h.invariant.only.long)
+within g c = omega (arith, tri_small c.args.i (omega arith), row_bounds c.loop-h.invariant, c.loop-h.invariant.only.long)
 
 pub overflow_add-index : goal.overflow_add-index
-overflow_add-index g c = omega (arith, within c)
+overflow_add-index g c = omega (arith, within g c)
 
 pub offset_bounds-work-row : goal.offset_bounds-work-row
-offset_bounds-work-row g c = omega (arith, within c)
+offset_bounds-work-row g c = omega (arith, within g (goal.at.offset_bounds-work-row g c).In-loop-h)
 
 pub bounds-work-row : goal.bounds-work-row
-bounds-work-row g c = omega (arith, within c)
+bounds-work-row g c = omega (arith, within g (goal.at.bounds-work-row g c).In-loop-h)
 
-few : (c : goal.Then-index-ne0) → let l = c in word l.loop-h.work (l.row_at-row.result + l.loop-h.h) ≤ 129025
-few c =
-    let l = c in
-    row_index_few l.loop-h.invariant (omega arith) l.row_at-row.ensures ((S l).requires.1.1 l.loop-h.h (omega arith)) (S l).requires.0
+few : (g : Over) (c : Then-index-ne0 g) → word c.loop-h.work (c.row_at-row.result + c.loop-h.h) ≤ 129025
+few g c =
+    row_index_few c.loop-h.invariant (omega arith) c.row_at-row.ensures
+    (subst (λ t. word c.args.work.now (index_at c.loop-h.h c.args.i) ≡ index_of t c.loop-h.h c.args.i) (sym c.requires.0) (c.requires.1.1.1 c.loop-h.h (omega arith)))
+    (subst Sane (sym c.requires.0) c.requires.1.0)
 
 pub overflow_mul-work : goal.overflow_mul-work
-overflow_mul-work g c = omega (arith, few c)
+overflow_mul-work g c = omega (arith, few g c)
 
 pub overflow_add-work : goal.overflow_add-work
-overflow_add-work g c = omega (arith, few c, within c)
+overflow_add-work g c = omega (arith, few g (goal.at.overflow_add-work g c).Then-index-ne0, within g (goal.at.overflow_add-work g c).In-loop-h)
 
 pub overflow_add-work-then-index-ne0 : goal.overflow_add-work-then-index-ne0
-overflow_add-work-then-index-ne0 g c = omega (arith, within c)
+overflow_add-work-then-index-ne0 g c = omega (arith, within g (goal.at.overflow_add-work-then-index-ne0 g c).In-loop-h)
 
 pub offset_bounds-work-to : goal.offset_bounds-work-to
-offset_bounds-work-to g c = omega (arith, within c)
+offset_bounds-work-to g c = omega (arith, within g (goal.at.offset_bounds-work-to g c).In-loop-h)
 
 pub bounds-work-to : goal.bounds-work-to
-bounds-work-to g c = omega (arith, within c)
+bounds-work-to g c = omega (arith, within g (goal.at.bounds-work-to g c).In-loop-h)
 
 pub overflow_add-to : goal.overflow_add-to
-overflow_add-to g c = omega (arith, within c)
+overflow_add-to g c = omega (arith, within g (goal.at.overflow_add-to g c).In-loop-h)
 
 pub loop-h-preserved : goal.loop-h-preserved
 loop-h-preserved g c =
-    let l = c in
-    let s = S l in
-    let er = l.row_at-row.ensures in
-    let lh : l.loop-h.h < s.args.i = omega arith in
-    let d = s.pre.1.1 l.loop-h.h lh in
-    ⊎_elim
-    (λ w. rw (w.1, w.2) (row_link l.loop-h.invariant s.pre.1.0.1 er d lh (omega arith) (within c).1))
-    (λ w. rw (w.1, w.2) (row_past l.loop-h.invariant s.pre.1.0.1 er d lh w.0.left))
-    c.if-index-ne0.branch
+    let er = c.row_at-row.ensures in
+    let lh : c.loop-h.h < c.args.i = omega arith in
+    let d = subst (λ t. word c.args.work.now (index_at c.loop-h.h c.args.i) ≡ index_of t c.loop-h.h c.args.i) (sym c.requires.0) (c.requires.1.1.1 c.loop-h.h lh) in
+    elim c.if-index-ne0.branch [
+      | then-index-ne0 w ↦ rw (w.work-is, w.to-is) (row_link c.loop-h.invariant (omega arith) er d lh (omega arith) (within g (goal.at.loop-h-preserved g c).In-loop-h).1)
+      | else-index-ne0 w ↦ rw (w.work-is, w.to-is) (row_past c.loop-h.invariant (omega arith) er d lh w.if-index-ne0.false)
+    ]
 
 pub returns : goal.returns
-returns g c = row_all c.loop-h.invariant (omega arith) c.loop-h-test.false
+returns g c =
+    let q = row_all c.loop-h.invariant (omega arith) c.loop-h-test.false in
+    record {
+      upper_bound = (q.0.0, subst (λ t. Links t c.loop-h.work c.args.i c.args.i 0 c.args.from c.loop-h.to) c.requires.0 q.0.1);
+      changed_only = q.1;
+    }
