@@ -1,12 +1,8 @@
 -- First the boats with all their slots, then the pairs passed.
 use Prim.Native.Nat.{◌-◌}
-use borrow.Author.Rules.{rules}
-use native.Mathlib.Omega.{arith}
-use lib.ListN.{length, length-set}
+use lib.ListN.{length}
 use Rattle.problem.specs.Tables.{tables, listed}
-use Rattle.words.specs.Layout.{ChangedOnly}
-use Rattle.words.proofs.ChangedOnly.{only_trans}
-use Rattle.chains.proofs.Chain.{ChainBegun, ChainTo, begun_none, begun_more, chain_none, chain_more, chain_all}
+use Rattle.chains.proofs.Chain.{ChainBegun, ChainTo}
 use Rattle.chains.proofs.chain_ahead.Given as goal
 
 abbrev pub invariant-loop-j : goal.invariant-loop-j

@@ -1,4 +1,4 @@
-use Rattle.std.proofs.Common.{◌+◌, ◌-◌, ◌*◌, ◌≤◌, sym, subst, arith}
+use Rattle.std.proofs.Common.{◌+◌, ◌-◌, ◌*◌, ◌≤◌, length, set, sym, subst, arith}
 use Rattle.problem.specs.Sane.{Sane}
 use Rattle.words.specs.Layout.{Firsts}
 use Rattle.chains.proofs.Ahead.{ahead_none, ahead_few, ahead_more, ahead_all}
@@ -30,6 +30,6 @@ pub returns : goal.returns
 returns g c =
     let q = ahead_all (subst Sane (sym c.requires.0) c.requires.1.0) c.requires.1.1 c.loop-i.invariant c.loop-i-test.false in
     record {
-      firsts = subst (λ t. Firsts t _) c.requires.0 q.0;
+      firsts = subst (λ t. Firsts t (set c.loop-i.work (192 + length c.args.sizes.now) c.loop-i.k)) c.requires.0 q.0;
       changed_only = q.1;
     }

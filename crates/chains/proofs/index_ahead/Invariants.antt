@@ -1,10 +1,8 @@
 -- The words of the boats passed are right.
-use Prim.Native.Nat.{◌+◌, ◌-◌, ◌*◌, ◌≤◌}
-use borrow.Author.Rules.{rules}
-use native.Mathlib.Omega.{arith}
-use lib.ListN.{length, length-set}
+use Prim.Native.Nat.{◌-◌}
+use lib.ListN.{length}
 use Rattle.problem.specs.Tables.{tables}
-use Rattle.chains.proofs.Ahead.{AheadTo, ahead_none, ahead_few, ahead_more, ahead_all}
+use Rattle.chains.proofs.Ahead.{AheadTo}
 use Rattle.chains.proofs.index_ahead.Given as goal
 
 abbrev pub invariant-loop-i : goal.invariant-loop-i

@@ -1,8 +1,5 @@
--- Every pair passed has a lower boat of at most the boat.
 use mathlib.Core.Path.{◌≡◌, sym, ◌∙◌}
-use Prim.Native.Nat.{ℕ, ◌+◌, ◌-◌, ◌≤◌, ◌<◌}
-use borrow.Author.Count.{below_more}
-use borrow.Author.Rules.{rules}
+use Prim.Native.Nat.{◌+◌, ◌≤◌}
 use native.Mathlib.Omega.{arith}
 use Rattle.problem.specs.Tables.{listed, lower}
 use Rattle.words.proofs.Firsts.{first_le, first_below, first_from, first_here, first_none}
@@ -18,7 +15,7 @@ returns-then-lower_of-boat c =
     let a = c.args in
     let p = c.requires in
     let l = c.loop-k in
-    let from : a.boat ≤ lower a.pairs.now l.k = first_from a.pairs.now p.0 a.boat l.k (omega arith) (omega arith) in
+    let from : a.boat ≤ lower a.pairs.now l.k = first_from a.pairs.now p.rising a.boat l.k (omega arith) (omega arith) in
     (omega arith, sym (first_here a.pairs.now (a.boat + 1) l.k (omega arith) l.invariant.2 (omega arith)))
 
 pub returns : goal.returns
