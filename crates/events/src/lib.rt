@@ -5,7 +5,7 @@ ghost use Rattle.std.specs.Prelude.{◌≡◌, ◌≤◌};
 ghost use Rattle.events.specs.Counts.{fresh, trial_counted, check_counted, checks_counted, with_all_checks};
 
 // The checks and trials made, each beside its allowance. It goes by value.
-#[derive(Drop)]
+#[derive(Clone, Copy)]
 pub struct Counts {
     pub checks: u64,
     pub trials: u64,
