@@ -10,7 +10,7 @@ use Rattle.problem.specs.Tables.{Tables, boats, size}
 use Rattle.events.specs.declared.Counts.{Counts}
 use Rattle.events.specs.Events.{trial}
 use Rattle.methods.specs.Machine.{next, step}
-use Rattle.methods.specs.Moves.{pass, fail, only}
+use Rattle.methods.specs.Moves.{only}
 use Rattle.methods.specs.BT.{Looked, look_back, blame_failing, looking_back}
 use Rattle.words.specs.Links.{Links}
 use Rattle.words.specs.Sets.{WithMember, set_words}
