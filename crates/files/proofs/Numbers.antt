@@ -71,6 +71,7 @@ module _ (t : Tables) where
       of_plan : {w : Told} → Gives (plan_tests t given) w → OfFile w.number → ⊥
       of_plan (here k l p f) o = omega (arith, o.0)
       of_plan (later a (here k l p f)) o = omega (arith, o.0)
+      of_plan {w = w} (later a (later _ x13)) o = elim x13 [ ]
 
   -- where the examination refuses, the question about a plan says the same
   pub refused_first : (given : List ℕ) → 100 ≤ (examination t).number → lawful_question t given ≡ examination t
