@@ -16,7 +16,6 @@ use Rattle.methods.specs.Moves.{Forward, one_back}
 use Rattle.methods.specs.BM.{Marks, bm, lowered}
 use Rattle.methods.specs.BT.{looking_back}
 use Rattle.methods.specs.ByPlan.{ahead_by_plan}
-use Rattle.methods.proofs.Runs.{at}
 use Rattle.words.specs.Places.{low_at}
 use Rattle.words.specs.Layout.{word, ChangedOnly, Placed}
 use Rattle.words.proofs.ChangedOnly.{only_refl, only_widen, only_take}
