@@ -12,7 +12,7 @@ use events::{Counted, Counts};
 use words::Words;
 
 // A boat's own pairs, from the first up to the end; where their rows begin, and how many each has.
-#[derive(Drop)]
+#[derive(Clone, Copy)]
 pub struct Own {
     pub first: usize,
     pub end: usize,
