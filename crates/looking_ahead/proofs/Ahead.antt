@@ -30,11 +30,12 @@ use Rattle.words.specs.Sets.{set_words}
 use Rattle.words.proofs.Firsts.{first_le}
 use Rattle.words.proofs.Lefts.{left_before}
 use Rattle.words.proofs.Bits.{bit_or_lem}
+use Rattle.words.proofs.Chains.{last_before_lem}
 use Rattle.words.proofs.ChangedOnly.{only_trans, only_take}
 use Rattle.words.proofs.Frames.{same_before, same_after, chained_stays}
 use Rattle.visits.specs.declared.Backward.{Backward}
 use Rattle.visits.specs.declared.Backward.TheVariants.{OneBack, BySets}
-use Rattle.visits.specs.Visits.{steps_over, state, ComesTo, Passes, Spends, RunsOut}
+use Rattle.visits.specs.Visits.{Standing, steps_over, state, ComesTo, Passes, Spends, RunsOut}
 use Rattle.visits.proofs.Ends.{come_more}
 use Rattle.visits.proofs.Visiting.{in_choices, step_dead}
 use Rattle.live_words.specs.Lives.{left_word, Lives, Stays, LostAt, Blames}
@@ -58,7 +59,17 @@ pub record Ready (backward : Backward) (t : Tables) (w : List ℕ) (i : ℕ) : T
 abbrev pub Reached : Tables → (w : List ℕ) → (i : ℕ) → (v : List ℕ) → Type 0
 Reached t w i v = ChangedOnly (live_at (first_pair t.pairs i)) blames w v
 
+pub ready_there : {backward : Backward} {t : Tables} {w : List ℕ} {i : ℕ} {m : Counts} → Standing t w i m → KeptAhead backward t w i → Ready backward t w i
+ready_there s k = record { sane = s.sane; boat = s.boat; room = s.room; kept = k }
+
 module _ {backward : Backward} {t : Tables} {w : List ℕ} {i : ℕ} (ready : Ready backward t w i) where
+  -- the place of the boat's live word
+  pub among : word w (448 + i) < 8192
+  among = omega (arith, last_before_lem t ready.sane ready.kept.chained i ready.boat, ready.sane.few_pairs)
+
+  pub is_live_word : word w (word w (448 + i)) ≡ left_word t w i i
+  is_live_word = ap (word w) (ready.kept.chained.last i ready.boat)
+
   pub short : i ≤ length w
   short = omega (arith, ready.sane.few_boats, ready.boat, ready.room)
 
@@ -180,6 +191,24 @@ module _ {backward : Backward} {t : Tables} {w : List ℕ} {i : ℕ} (ready : Re
     pub trial_made : {r : Counted} {x : Counts} → r ≡ trial_counted k → r ≡ Within x → Makes k (trial i a ∷ []) x
     trial_made {x = x} e f = makes_trial k x c.makes.fits i a (sym e ∙ f)
 
+-- ---- at a slot that is due, below the boat's slots
+pub record TriedAt (t : Tables) (w : List ℕ) (i : ℕ) (backward : Backward) (a₀ s₀ : ℕ) (m : Counts) (a s : ℕ) (k : Counts) : Type 0 where
+  pub ready : Ready backward t w i
+  pub slot : a < size t.sizes i
+  pub live : bit (left_word t w i i) a ≡ true
+  pub comes : Comes t w i backward a₀ s₀ m a s k
+
+pub tried : {t : Tables} {w : List ℕ} {i : ℕ} {backward : Backward} {a₀ s₀ : ℕ} {m : Counts} {a s : ℕ} {k : Counts} →
+    Ready backward t w i → a < size t.sizes i → DueAt t w i backward a₀ s₀ m a s k → (a < 64 → bit (left_word t w i i) a ≡ true) →
+    TriedAt t w i backward a₀ s₀ m a s k
+tried {t} {w} {i} {backward} {a₀} {s₀} {m} {a} {s} {k} r la d live =
+    record {
+      ready = r;
+      slot = la;
+      live = live (omega (arith, r.sane.few_slots i r.boat));
+      comes = subst (λ (b : ℕ). Comes t w i backward a₀ s₀ m b s k) (d.here la) d.comes;
+    }
+
 -- ---- after the sweep of slot a, which went from the words v to the words v'
 pub record AfterSweep (t : Tables) (w : List ℕ) (i : ℕ) (backward : Backward) (a₀ s₀ : ℕ) (m : Counts) (a s : ℕ) (k n : Counts) (v v' : List ℕ) (r : Swept) : Type 0 where
   pub ready : Ready backward t w i
@@ -300,3 +329,12 @@ module _ {t : Tables} {w : List ℕ} {i : ℕ} {backward : Backward} {a₀ s₀ 
             bit_or_lem s blamed g
             ∙ ap (λ (y : Bool). bit s g || y)
             (lost_blamers t v' (take i w) i j (long c.ready) (le_of_lt later) named (c.ready.sane.few_slots j named) fit (kept_lives c.ready kept_after) blamed is_lost g)
+
+-- after a sweep there are all the words; where it emptied a boat, the place of the live word before is small
+module _ {t : Tables} {w : List ℕ} {i : ℕ} {backward : Backward} {a₀ s₀ : ℕ} {m : Counts} {a s : ℕ} {k n : Counts} {v v' : List ℕ} {r : Swept}
+    (c : AfterSweep t w i backward a₀ s₀ m a s k n v v' r) where
+  pub long_after : 8192 ≤ length v'
+  long_after = omega (arith, (kept_after c).long, c.ready.room)
+
+  pub before_small : {q : ℕ} {x : Counts} → r ≡ Emptied x q → word v' (512 + q) < 6112
+  before_small e = omega (arith, before_few c e, c.ready.sane.few_pairs)
