@@ -8,14 +8,14 @@ use borrow.Author.Tests.{lt-ltb, le-ltb}
 use lib.Dec.{ltb}
 use lib.ListN.{length, get_or, take, drop}
 use Rattle.problem.specs.Tables.{Tables, listed}
-use Rattle.problem.specs.Replies.{Told, told, refused, refusal_told, refusal_number, refusal_place}
+use Rattle.problem.specs.Replies.{told, refusal_told, refusal_number, refusal_place}
 use Rattle.problem.specs.declared.Refusal.{Refusal}
 use Rattle.tables.proofs.Bools.{or_here, neither_or}
 use Rattle.files.specs.Bytes.{Below}
 use Rattle.files.specs.Reading.{Reading, fault, read, reading}
 use Rattle.files.specs.Limits.{Whole}
 use Rattle.files.specs.Rooms.{Rooms, rooms, too_small, covering}
-use Rattle.files.specs.Reader.{Result, refused_result, unless_small, result_of}
+use Rattle.files.specs.Reader.{refused_result, unless_small, result_of}
 use Rattle.files.proofs.OneFile.{one_file}
 use Rattle.scanning.specs.Replies.{reading_told}
 use Rattle.scanning.specs.Scanning.{from_sizes}
