@@ -13,7 +13,7 @@ use events::Counts;
 use problem::{Allowance, Answer, Refusal, Reply};
 
 // Where a run stands that an allowance ends: the boat and the slot at hand, and how many events of that slot's step are made.
-#[derive(Drop)]
+#[derive(Clone, Copy)]
 pub struct Place {
     pub boat: usize,
     pub slot: u64,
@@ -21,7 +21,7 @@ pub struct Place {
 }
 
 // How a search ends.
-#[derive(Drop)]
+#[derive(Clone, Copy)]
 pub enum Ended {
     Solved(Counts),
     NoPlan(Counts),

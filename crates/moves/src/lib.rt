@@ -11,7 +11,7 @@ use problem::Method;
 use visits::Backward;
 
 // A forward move, and where it is open, a backward one.
-#[derive(Drop)]
+#[derive(Clone, Copy)]
 pub enum Moves {
     LookingBack(Backward),
     Marking,

@@ -136,7 +136,7 @@ pub enum Refusal {
 }
 
 // The allowance that ran out.
-#[derive(Drop)]
+#[derive(Clone, Copy)]
 pub enum Allowance {
     Checks,
     Trials,

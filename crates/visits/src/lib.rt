@@ -9,7 +9,7 @@ ghost use Rattle.visits.specs.Looks.{checked_look};
 use events::{Counted, Counts};
 
 // A way back over a forward move that remembers nothing of its own: by one boat, or by conflict sets.
-#[derive(Drop)]
+#[derive(Clone, Copy)]
 pub enum Backward {
     OneBack,
     BySets,
