@@ -1,0 +1,20 @@
+-- One loop, which keeps that a search is on its way: whole steps lead from the entry to here.
+use lib.ListN.{take}
+use Rattle.methods.proofs.StepsLeft.{steps_left_of}
+use Rattle.moves.specs.Memory.{memory}
+use Rattle.walk.proofs.Underway.{Underway}
+use Rattle.walk.proofs.walk.Given as goal
+
+abbrev pub invariant-loop-i : goal.invariant-loop-i
+invariant-loop-i g l =
+    let w = l.initial.work in
+    Underway l.moves g.t (take l.boat w) l.from (memory l.moves w l.boat) w l.initial.counts l.work l.i l.slot l.counts
+
+abbrev pub decreases-loop-i : goal.decreases-loop-i
+decreases-loop-i g l = steps_left_of g.t (take l.i l.work) l.slot
+
+abbrev pub ghost-label : goal.ghost-label
+ghost-label g a = g.t
+
+abbrev pub ghost-unlabel : goal.ghost-unlabel
+ghost-unlabel g a = g.t
