@@ -44,14 +44,20 @@ run: $(EXAMPLE)
 
 records: $(RECORDS)
 
-# Every crate that is no program; rt goes through them all and proves only what has changed.
+# What the proofs of the library are made of: of every crate that is no program all that rt reads.
 PROGRAMS := $(patsubst %/src/main.rt,%,$(wildcard crates/*/src/main.rt))
 CRATES := $(filter-out $(PROGRAMS),$(wildcard crates/*))
+READ := $(wildcard $(CRATES:%=%/src) $(CRATES:%=%/specs) $(CRATES:%=%/proofs))
 
-$(PROVED): crates.txt $(shell find $(CRATES) -name '*.rt' -o -name '*.antt') | needs_rt
+# For every x86-64; left to itself rt takes x86-64-v2, which some lack.
+CPU = x86-64
+
+# rt proves the crates under harbour too, and of all only what has changed. Its archive stands in out/, as what it keeps does.
+$(PROVED): crates.txt $(shell find $(READ) -name '*.rt' -o -name '*.antt') | needs_rt
 	@echo 'proving the library: some minutes the first time'
-	@mkdir -p target
-	@$(RT) staticlib harbour 2>&1 | tee target/harbour.log | grep --line-buffered '^rt:' || { cat target/harbour.log; exit 1; }
+	@mkdir -p $(@D)
+	@(cd crates/harbour && $(RT) lib --cpu $(CPU)) 2>&1 | tee target/harbour.log | sed --unbuffered --quiet '/^rt:/p' || { cat target/harbour.log; exit 1; }
+	@install -m 644 crates/harbour/out/libharbour.a $@
 
 # What is compared with dist/ is built now: rt knows what is proved already.
 ifneq ($(filter outside,$(MAKECMDGOALS)),)
@@ -74,7 +80,7 @@ fit:
 	esac
 
 dist: needs_rt
-	@bash package/dist.sh $(RT)
+	@bash package/dist.sh $(RT) $(CPU)
 
 # Nothing runs when it is loaded, and only harbour_* can be seen.
 $(SHARED): $(LIBRARY) package/harbour.map | fit
@@ -192,4 +198,4 @@ clean:
 	rm -rf target/example target/tools target/shared $(BENCHED) $(OUTSIDE) target/second target/second.log
 
 distclean:
-	rm -rf target
+	rm -rf target crates/*/out
