@@ -10,7 +10,8 @@
 #                for each problem too, `target/bench/bench files` the reading and writing of tables alone
 # make dist      builds dist/ anew from proofs: what is used where there is no prover
 # make vectors   writes the stored problems and replies of crates/vectors anew
-# make gate      proves every crate from nothing, tries the must-fail edits, runs the programs
+# make gate      proves every crate, tries the must-fail edits, runs the programs; what rt keeps of earlier runs
+#                on this machine it proves and tries again only where something has changed
 # make clean     removes what was built, and keeps what was proved; make distclean removes both
 
 SHELL := bash
