@@ -2,27 +2,43 @@
 use crate::{lent, say};
 use questions::Judged;
 use reader::FileRead;
+use std::io;
+use std::io::Write;
 use writer::Written;
 
 // Room for a part of the memory that the stored problems lend.
 const PART: usize = 512;
 
 // A file that is to be lent more than there is room for is not written.
-pub fn write(text: &[u8], at: usize, sizes: &[u8], pairs: &[u8], rows: &[u64]) {
+pub fn write(
+    text: &[u8],
+    at: usize,
+    sizes: &[u8],
+    pairs: &[u8],
+    rows: &[u64],
+    out: &mut impl Write,
+) -> io::Result<()> {
     let mut terms = [0u64; 1];
     reading::numbers(reading::TEN, b' ', text, at, &mut terms);
     let bytes = terms[0] as usize;
     let mut room = [0u8; PART];
     if bytes <= PART {
-        writing(sizes, pairs, rows, &mut room[0..bytes]);
+        writing(sizes, pairs, rows, &mut room[0..bytes], out)?;
     }
+    Ok(())
 }
 
-fn writing(sizes: &[u8], pairs: &[u8], rows: &[u64], room: &mut [u8]) {
+fn writing(
+    sizes: &[u8],
+    pairs: &[u8],
+    rows: &[u64],
+    room: &mut [u8],
+    out: &mut impl Write,
+) -> io::Result<()> {
     lent::fill_bytes(room);
-    say::written(written(sizes, pairs, rows, room));
-    say::bytes(room);
-    say::text(b"\n");
+    say::written(written(sizes, pairs, rows, room), out)?;
+    say::bytes(room, out)?;
+    say::text(b"\n", out)
 }
 
 // The writer without its promise, which nothing here needs.
@@ -30,34 +46,41 @@ fn written(sizes: &[u8], pairs: &[u8], rows: &[u64], room: &mut [u8]) -> Written
     writer::write(sizes, pairs, rows, room)
 }
 
-pub fn read(text: &[u8], at: usize) {
+pub fn read(text: &[u8], at: usize, out: &mut impl Write) -> io::Result<()> {
     let mut room = [0u8; reading::BYTES];
     let file = reading::bytes(text, at, &mut room);
     let bytes = file.count;
-    without_plan(text, file.after, &room[0..bytes]);
+    without_plan(text, file.after, &room[0..bytes], out)
 }
 
-fn without_plan(text: &[u8], at: usize, file: &[u8]) {
+fn without_plan(text: &[u8], at: usize, file: &[u8], out: &mut impl Write) -> io::Result<()> {
     let plan = [0u8; 1];
-    lend(text, at, file, false, &plan[0..0]);
+    lend(text, at, file, false, &plan[0..0], out)
 }
 
-pub fn ask(text: &[u8], at: usize) {
+pub fn ask(text: &[u8], at: usize, out: &mut impl Write) -> io::Result<()> {
     let mut room = [0u8; reading::BYTES];
     let file = reading::bytes(text, at, &mut room);
     let bytes = file.count;
-    with_plan(text, file.after, &room[0..bytes]);
+    with_plan(text, file.after, &room[0..bytes], out)
 }
 
-fn with_plan(text: &[u8], at: usize, file: &[u8]) {
+fn with_plan(text: &[u8], at: usize, file: &[u8], out: &mut impl Write) -> io::Result<()> {
     let mut room = [0u8; reading::BYTES];
     let slots = reading::bytes(text, at, &mut room);
     let count = slots.count;
-    lend(text, slots.after, file, true, &room[0..count]);
+    lend(text, slots.after, file, true, &room[0..count], out)
 }
 
 // What is lent is the same for both; a file that is to be lent more than there is room for is not read.
-fn lend(text: &[u8], at: usize, file: &[u8], is_desk: bool, plan: &[u8]) {
+fn lend(
+    text: &[u8],
+    at: usize,
+    file: &[u8],
+    is_desk: bool,
+    plan: &[u8],
+    out: &mut impl Write,
+) -> io::Result<()> {
     let mut terms = [0u64; 3];
     reading::numbers(reading::TEN, b' ', text, at, &mut terms);
     let boats = terms[0] as usize;
@@ -76,10 +99,12 @@ fn lend(text: &[u8], at: usize, file: &[u8], is_desk: bool, plan: &[u8]) {
                     &mut sizes[0..boats],
                     &mut pairs[0..bytes],
                     &mut rows[0..words],
-                );
+                    out,
+                )?;
             }
         }
     }
+    Ok(())
 }
 
 fn lending(
@@ -89,10 +114,11 @@ fn lending(
     sizes: &mut [u8],
     pairs: &mut [u8],
     rows: &mut [u64],
-) {
+    out: &mut impl Write,
+) -> io::Result<()> {
     fill(sizes, pairs, rows);
-    answer(file, is_desk, plan, sizes, pairs, rows);
-    shown(sizes, pairs, rows);
+    answer(file, is_desk, plan, sizes, pairs, rows, out)?;
+    shown(sizes, pairs, rows, out)
 }
 
 fn fill(sizes: &mut [u8], pairs: &mut [u8], rows: &mut [u64]) {
@@ -108,19 +134,20 @@ fn answer(
     sizes: &mut [u8],
     pairs: &mut [u8],
     rows: &mut [u64],
-) {
+    out: &mut impl Write,
+) -> io::Result<()> {
     if is_desk {
-        say::asked(asked(file, plan, sizes, pairs, rows));
+        say::asked(asked(file, plan, sizes, pairs, rows), out)
     } else {
-        say::file_read(was_read(file, sizes, pairs, rows));
+        say::file_read(was_read(file, sizes, pairs, rows), out)
     }
 }
 
-fn shown(sizes: &[u8], pairs: &[u8], rows: &[u64]) {
-    say::bytes(sizes);
-    say::bytes(pairs);
-    say::words(rows);
-    say::text(b"\n");
+fn shown(sizes: &[u8], pairs: &[u8], rows: &[u64], out: &mut impl Write) -> io::Result<()> {
+    say::bytes(sizes, out)?;
+    say::bytes(pairs, out)?;
+    say::words(rows, out)?;
+    say::text(b"\n", out)
 }
 
 // The reader and the desk's question, without their promises too.

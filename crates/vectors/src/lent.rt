@@ -2,6 +2,8 @@
 ghost use Rattle.std.specs.Prelude.{◌≤◌, length};
 
 use crate::say;
+use std::io;
+use std::io::Write;
 
 // Another number in each of 256 bytes.
 pub fn fill_bytes(bytes: &mut [u8]) {
@@ -26,14 +28,14 @@ fn dirt(k: usize) -> u64 {
 }
 
 // The bytes that changed and how many they are, how far the words changed, and how many of those are not 0.
-pub fn measured(plan: &[u8], words: &[u64]) {
+pub fn measured(plan: &[u8], words: &[u64], out: &mut impl Write) -> io::Result<()> {
     let bytes = changed_bytes(plan);
     let changed = changed_words(words);
-    say::bytes(&plan[0..bytes]);
-    say::number(bytes as u64);
-    say::number(changed as u64);
-    say::number(not_zero(&words[0..changed]) as u64);
-    say::text(b"\n");
+    say::bytes(&plan[0..bytes], out)?;
+    say::number(bytes as u64, out)?;
+    say::number(changed as u64, out)?;
+    say::number(not_zero(&words[0..changed]) as u64, out)?;
+    say::text(b"\n", out)
 }
 
 // The place after the last byte that changed: all were 255, which is no slot.

@@ -9,27 +9,25 @@ mod run;
 mod say;
 mod shown;
 
-// More bytes than the stored problems have.
-const ROOM: usize = 2097152;
+use std::io;
+use std::io::{BufWriter, Read, Write};
 
-fn main() {
-    let mut text = [0u8; ROOM];
-    with_input(&mut text);
+// More bytes than the stored problems have; what stands behind so many is not read.
+const ROOM: u64 = 2097152;
+
+// A read or a write that fails, or memory that is not to be had, ends the program with an error.
+fn main(rt: HostRuntime) -> io::Result<()> {
+    let mut text = Vec::new(rt.alloc());
+    rt.reader().take(ROOM).read_to_end(&mut text)?;
+    let mut out = BufWriter::new(rt.alloc(), io::writer(&rt))?;
+    all_groups(&text, &mut out)?;
+    out.flush()
 }
 
-// The array's length is known by its type here; to count it is beyond the checker.
-fn with_input(text: &mut [u8; ROOM]) {
-    read_into(text);
-}
-
-fn read_into(text: &mut [u8]) {
-    let got = io::read_full(0, text);
-    all_groups(&text[..got]);
-}
-
-fn all_groups(text: &[u8]) {
+fn all_groups(text: &[u8], out: &mut impl Write) -> io::Result<()> {
     let mut at: usize = 0;
     while at < text.len() {
-        at = group::group(text, at);
+        at = group::group(text, at, out)?;
     }
+    Ok(())
 }

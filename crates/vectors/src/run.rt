@@ -1,6 +1,8 @@
 // Run a method.
 use crate::{lent, say};
 use problem::Reply;
+use std::io;
+use std::io::Write;
 
 // Room for the memory that the stored problems lend; some of it is more than a run needs.
 const PLAN: usize = 512;
@@ -15,7 +17,14 @@ struct Asked {
     trials: u64,
 }
 
-pub fn run(text: &[u8], at: usize, sizes: &[u8], pairs: &[u8], rows: &[u64]) {
+pub fn run(
+    text: &[u8],
+    at: usize,
+    sizes: &[u8],
+    pairs: &[u8],
+    rows: &[u64],
+    out: &mut impl Write,
+) -> io::Result<()> {
     let mut terms = [0u64; 5];
     reading::numbers(reading::TEN, b' ', text, at, &mut terms);
     let asked = Asked {
@@ -30,11 +39,20 @@ pub fn run(text: &[u8], at: usize, sizes: &[u8], pairs: &[u8], rows: &[u64]) {
         rows,
         terms[3] as usize,
         terms[4] as usize,
-    );
+        out,
+    )
 }
 
 // A run that is to be lent more than there is room for is not made.
-fn with_memory(asked: Asked, sizes: &[u8], pairs: &[u8], rows: &[u64], bytes: usize, count: usize) {
+fn with_memory(
+    asked: Asked,
+    sizes: &[u8],
+    pairs: &[u8],
+    rows: &[u64],
+    bytes: usize,
+    count: usize,
+    out: &mut impl Write,
+) -> io::Result<()> {
     let mut plan = [255u8; PLAN];
     let mut words = [0u64; WORDS];
     if bytes <= PLAN {
@@ -46,9 +64,11 @@ fn with_memory(asked: Asked, sizes: &[u8], pairs: &[u8], rows: &[u64], bytes: us
                 rows,
                 &mut plan[0..bytes],
                 &mut words[0..count],
-            );
+                out,
+            )?;
         }
     }
+    Ok(())
 }
 
 fn lending(
@@ -58,10 +78,11 @@ fn lending(
     rows: &[u64],
     plan: &mut [u8],
     words: &mut [u64],
-) {
+    out: &mut impl Write,
+) -> io::Result<()> {
     lent::fill_words(words);
-    say::replied(ran(asked, sizes, pairs, rows, plan, words));
-    lent::measured(plan, words);
+    say::replied(ran(asked, sizes, pairs, rows, plan, words), out)?;
+    lent::measured(plan, words, out)
 }
 
 // The run without its promise, which nothing here needs.

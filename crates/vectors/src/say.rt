@@ -1,27 +1,28 @@
-// The fields of a reply's line; each but the first comes after a space.
+// The fields of a reply's line; each but the first comes after a space. The one error is that of a write.
 use problem::{Allowance, Answer, Refusal, Reply};
 use questions::{Broken, Judged};
 use reader::FileRead;
+use std::io;
+use std::io::Write;
 use tables::Examined;
 use writer::Written;
 
-pub fn text(words: &[u8]) {
-    io::write_all(1, words);
+pub fn text(words: &[u8], out: &mut impl Write) -> io::Result<()> {
+    out.write_all(words)
 }
 
-pub fn number(n: u64) {
-    text(b" ");
-    io::print_decimal(1, n);
+pub fn number(n: u64, out: &mut impl Write) -> io::Result<()> {
+    write!(out, " {n}")
 }
 
-fn answer(told: u64, place: u64) {
-    number(told);
-    number(place);
+fn answer(told: u64, place: u64, out: &mut impl Write) -> io::Result<()> {
+    number(told, out)?;
+    number(place, out)
 }
 
-fn refused(why: Refusal) {
+fn refused(why: Refusal, out: &mut impl Write) -> io::Result<()> {
     let told = problem::number_of(why);
-    answer(from_100(told.number), told.place);
+    answer(from_100(told.number), told.place, out)
 }
 
 // A refusal counts from 100, so that its number is no other answer's.
@@ -33,132 +34,141 @@ fn from_100(number: u64) -> u64 {
 }
 
 // The place of fine tables is 0 where their own numbers are the ones given here.
-pub fn examined(found: Examined, boats: usize, pairs: usize, words: usize) {
-    text(b"t");
+pub fn examined(
+    found: Examined,
+    boats: usize,
+    pairs: usize,
+    words: usize,
+    out: &mut impl Write,
+) -> io::Result<()> {
+    text(b"t", out)?;
     match found {
         Examined::Fine(own) => {
             let off = own.boats ^ boats | own.pairs ^ pairs | own.words ^ words;
-            answer(0, off as u64);
+            answer(0, off as u64, out)?;
         }
-        Examined::Refused(why) => refused(why),
+        Examined::Refused(why) => refused(why, out)?,
     }
-    text(b"\n");
+    text(b"\n", out)
 }
 
-pub fn judged(found: Judged) {
+pub fn judged(found: Judged, out: &mut impl Write) -> io::Result<()> {
     match found {
-        Judged::Lawful => answer(0, 0),
-        Judged::Unlawful => answer(1, 0),
-        Judged::Refused(why) => refused(why),
+        Judged::Lawful => answer(0, 0, out),
+        Judged::Unlawful => answer(1, 0, out),
+        Judged::Refused(why) => refused(why, out),
     }
 }
 
-pub fn broken(found: Broken) {
+pub fn broken(found: Broken, out: &mut impl Write) -> io::Result<()> {
     match found {
-        Broken::Nowhere => answer(0, 0),
-        Broken::Pair(pair) => answer(1, pair as u64),
-        Broken::Refused(why) => refused(why),
+        Broken::Nowhere => answer(0, 0, out),
+        Broken::Pair(pair) => answer(1, pair as u64, out),
+        Broken::Refused(why) => refused(why, out),
     }
 }
 
-pub fn replied(reply: Reply) {
-    text(b"r");
+pub fn replied(reply: Reply, out: &mut impl Write) -> io::Result<()> {
+    text(b"r", out)?;
     let answered = reply.answer;
     match answered {
-        Answer::Solved => answer(0, 0),
-        Answer::NoPlan => answer(1, 0),
-        Answer::Undecided(by) => undecided(by),
-        Answer::Refused(why) => refused(why),
+        Answer::Solved => answer(0, 0, out)?,
+        Answer::NoPlan => answer(1, 0, out)?,
+        Answer::Undecided(by) => undecided(by, out)?,
+        Answer::Refused(why) => refused(why, out)?,
     }
-    number(reply.checks);
-    number(reply.trials);
+    number(reply.checks, out)?;
+    number(reply.trials, out)
 }
 
-fn undecided(by: Allowance) {
+fn undecided(by: Allowance, out: &mut impl Write) -> io::Result<()> {
     match by {
-        Allowance::Checks => answer(2, 0),
-        Allowance::Trials => answer(3, 0),
+        Allowance::Checks => answer(2, 0, out),
+        Allowance::Trials => answer(3, 0, out),
     }
 }
 
 // The file's length, 0 where it is not written.
-pub fn written(found: Written) {
-    text(b"w");
+pub fn written(found: Written, out: &mut impl Write) -> io::Result<()> {
+    text(b"w", out)?;
     match found {
         Written::Done(length) => {
-            answer(0, 0);
-            number(length as u64);
+            answer(0, 0, out)?;
+            number(length as u64, out)
         }
         Written::Refused(why) => {
-            refused(why);
-            number(0);
+            refused(why, out)?;
+            number(0, out)
         }
     }
 }
 
 // What is said of the tables, and how much is written to each part.
-pub fn file_read(reply: FileRead) {
-    text(b"f");
+pub fn file_read(reply: FileRead, out: &mut impl Write) -> io::Result<()> {
+    text(b"f", out)?;
     let found = reply.found;
     match found {
-        Examined::Fine(_) => answer(0, 0),
-        Examined::Refused(why) => refused(why),
+        Examined::Fine(_) => answer(0, 0, out)?,
+        Examined::Refused(why) => refused(why, out)?,
     }
-    number(reply.boats as u64);
-    number(reply.pair_bytes as u64);
-    number(reply.row_words as u64);
+    number(reply.boats as u64, out)?;
+    number(reply.pair_bytes as u64, out)?;
+    number(reply.row_words as u64, out)
 }
 
 // The one number that the desk is given.
-pub fn asked(found: Judged) {
-    text(b"d");
+pub fn asked(found: Judged, out: &mut impl Write) -> io::Result<()> {
+    text(b"d", out)?;
     match found {
-        Judged::Lawful => number(0),
-        Judged::Unlawful => number(1),
-        Judged::Refused(why) => number_of(why),
+        Judged::Lawful => number(0, out),
+        Judged::Unlawful => number(1, out),
+        Judged::Refused(why) => number_of(why, out),
     }
 }
 
-fn number_of(why: Refusal) {
+fn number_of(why: Refusal, out: &mut impl Write) -> io::Result<()> {
     let told = problem::number_of(why);
-    number(from_100(told.number));
+    number(from_100(told.number), out)
 }
 
 // Before a field that holds many: a lone '-' where it holds none.
-fn begin(count: usize) {
-    text(b" ");
+fn begin(count: usize, out: &mut impl Write) -> io::Result<()> {
+    text(b" ", out)?;
     if count == 0 {
-        text(b"-");
+        text(b"-", out)?;
     }
+    Ok(())
 }
 
 // Bytes in hex.
-pub fn bytes(shown: &[u8]) {
-    begin(shown.len());
+pub fn bytes(shown: &[u8], out: &mut impl Write) -> io::Result<()> {
+    begin(shown.len(), out)?;
     let mut k: usize = 0;
     while k < shown.len() {
-        byte(shown[k]);
+        byte(shown[k], out)?;
         k += 1;
     }
+    Ok(())
 }
 
-fn byte(one: u8) {
-    io::print_hex(1, one as u64, 2);
+fn byte(one: u8, out: &mut impl Write) -> io::Result<()> {
+    write!(out, "{one:02x}")
 }
 
 // Words in hex, with commas between.
-pub fn words(shown: &[u64]) {
-    begin(shown.len());
+pub fn words(shown: &[u64], out: &mut impl Write) -> io::Result<()> {
+    begin(shown.len(), out)?;
     let mut k: usize = 0;
     while k < shown.len() {
-        word(k, shown[k]);
+        word(k, shown[k], out)?;
         k += 1;
     }
+    Ok(())
 }
 
-fn word(k: usize, one: u64) {
+fn word(k: usize, one: u64, out: &mut impl Write) -> io::Result<()> {
     if 0 < k {
-        text(b",");
+        text(b",", out)?;
     }
-    io::print_hex(1, one, 1);
+    write!(out, "{one:x}")
 }
