@@ -1,18 +1,18 @@
 // Tables, and the questions about them: all lines up to the next tables.
-ghost use Rattle.std.specs.Prelude.{◌<◌, ◌≤◌, length, IfOk};
+ghost use Rattle.std.specs.Prelude.{◌<◌, ◌≤◌, length};
 
-use crate::{files, given, run, say, shown};
+use crate::out::Out;
+use crate::{file_lines, given, run, say, shown};
 use reading::Many;
-use std::io;
 use std::io::Write;
 
 // Room for row words; some of the stored tables are past the limits.
 const ROWS: usize = 131072;
 
-// Answers the group that starts at a place, and gives the place after it. The one error is that of a write to `out`, which may then have a part of the replies.
-pub fn group(text: &[u8], start: usize, out: &mut impl Write) -> io::Result<usize>
+// Answers the group that starts at a place, and gives the place after it.
+pub fn group(text: &[u8], start: usize, out: &mut Out<impl Write + Drop>) -> usize
     requires { start < length text.now }
-    ensures { IfOk result (λ after. start < after) }
+    ensures { start < result }
 {
     let mut room = [0u8; reading::BYTES];
     let read = reading::bytes(text, start + 1, &mut room);
@@ -25,10 +25,10 @@ fn with_sizes(
     start: usize,
     at: usize,
     sizes: &[u8],
-    out: &mut impl Write,
-) -> io::Result<usize>
+    out: &mut Out<impl Write + Drop>,
+) -> usize
     requires { start < length text.now }
-    ensures { IfOk result (λ after. start < after) }
+    ensures { start < result }
 {
     let mut room = [0u8; reading::BYTES];
     let read = reading::bytes(text, at, &mut room);
@@ -42,10 +42,10 @@ fn with_pairs(
     at: usize,
     sizes: &[u8],
     pairs: &[u8],
-    out: &mut impl Write,
-) -> io::Result<usize>
+    out: &mut Out<impl Write + Drop>,
+) -> usize
     requires { start < length text.now }
-    ensures { IfOk result (λ after. start < after) }
+    ensures { start < result }
 {
     let mut room = [0u64; ROWS];
     let read = rows(text, at, &mut room);
@@ -66,10 +66,10 @@ fn questions(
     sizes: &[u8],
     pairs: &[u8],
     rows: &[u64],
-    out: &mut impl Write,
-) -> io::Result<usize>
+    out: &mut Out<impl Write + Drop>,
+) -> usize
     requires { start < length text.now }
-    ensures { IfOk result (λ after. start < after) }
+    ensures { start < result }
 {
     say::examined(
         tables::examine(sizes, pairs, rows),
@@ -77,17 +77,17 @@ fn questions(
         pairs.len() / 2,
         rows.len(),
         out,
-    )?;
+    );
     let mut at = reading::next_line(text, start);
     while at < text.len() {
         let kind = text[at];
         if kind == b't' {
             break;
         }
-        question(kind, text, at + 1, sizes, pairs, rows, out)?;
+        question(kind, text, at + 1, sizes, pairs, rows, out);
         at = reading::next_line(text, at);
     }
-    Ok(at)
+    at
 }
 
 fn question(
@@ -97,15 +97,15 @@ fn question(
     sizes: &[u8],
     pairs: &[u8],
     rows: &[u64],
-    out: &mut impl Write,
-) -> io::Result<()> {
+    out: &mut Out<impl Write + Drop>,
+) {
     match kind {
         b'r' => run::run(text, at, sizes, pairs, rows, out),
         b'p' => given::given(text, at, sizes, pairs, rows, out),
         b's' => shown::shown(text, at, sizes, pairs, rows, out),
-        b'w' => files::write(text, at, sizes, pairs, rows, out),
-        b'f' => files::read(text, at, out),
-        b'd' => files::ask(text, at, out),
+        b'w' => file_lines::write(text, at, sizes, pairs, rows, out),
+        b'f' => file_lines::read(text, at, out),
+        b'd' => file_lines::ask(text, at, out),
         _ => say::text(b"no question\n", out),
     }
 }

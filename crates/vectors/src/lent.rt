@@ -1,8 +1,8 @@
 // Memory that is lent: what it holds before, and, of a run, how far it has changed after.
 ghost use Rattle.std.specs.Prelude.{◌≤◌, length};
 
+use crate::out::Out;
 use crate::say;
-use std::io;
 use std::io::Write;
 
 // Another number in each of 256 bytes.
@@ -28,13 +28,13 @@ fn dirt(k: usize) -> u64 {
 }
 
 // The bytes that changed and how many they are, how far the words changed, and how many of those are not 0.
-pub fn measured(plan: &[u8], words: &[u64], out: &mut impl Write) -> io::Result<()> {
+pub fn measured(plan: &[u8], words: &[u64], out: &mut Out<impl Write + Drop>) {
     let bytes = changed_bytes(plan);
     let changed = changed_words(words);
-    say::bytes(&plan[0..bytes], out)?;
-    say::number(bytes as u64, out)?;
-    say::number(changed as u64, out)?;
-    say::number(not_zero(&words[0..changed]) as u64, out)?;
+    say::bytes(&plan[0..bytes], out);
+    say::number(bytes as u64, out);
+    say::number(changed as u64, out);
+    say::number(not_zero(&words[0..changed]) as u64, out);
     say::text(b"\n", out)
 }
 

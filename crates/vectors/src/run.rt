@@ -1,7 +1,7 @@
 // Run a method.
+use crate::out::Out;
 use crate::{lent, say};
 use problem::Reply;
-use std::io;
 use std::io::Write;
 
 // Room for the memory that the stored problems lend; some of it is more than a run needs.
@@ -23,8 +23,8 @@ pub fn run(
     sizes: &[u8],
     pairs: &[u8],
     rows: &[u64],
-    out: &mut impl Write,
-) -> io::Result<()> {
+    out: &mut Out<impl Write + Drop>,
+) {
     let mut terms = [0u64; 5];
     reading::numbers(reading::TEN, b' ', text, at, &mut terms);
     let asked = Asked {
@@ -51,8 +51,8 @@ fn with_memory(
     rows: &[u64],
     bytes: usize,
     count: usize,
-    out: &mut impl Write,
-) -> io::Result<()> {
+    out: &mut Out<impl Write + Drop>,
+) {
     let mut plan = [255u8; PLAN];
     let mut words = [0u64; WORDS];
     if bytes <= PLAN {
@@ -65,10 +65,9 @@ fn with_memory(
                 &mut plan[0..bytes],
                 &mut words[0..count],
                 out,
-            )?;
+            );
         }
     }
-    Ok(())
 }
 
 fn lending(
@@ -78,10 +77,10 @@ fn lending(
     rows: &[u64],
     plan: &mut [u8],
     words: &mut [u64],
-    out: &mut impl Write,
-) -> io::Result<()> {
+    out: &mut Out<impl Write + Drop>,
+) {
     lent::fill_words(words);
-    say::replied(ran(asked, sizes, pairs, rows, plan, words), out)?;
+    say::replied(ran(asked, sizes, pairs, rows, plan, words), out);
     lent::measured(plan, words, out)
 }
 

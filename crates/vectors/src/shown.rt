@@ -1,6 +1,6 @@
 // Show the rows of a pair.
+use crate::out::Out;
 use crate::say;
-use std::io;
 use std::io::Write;
 
 pub fn shown(
@@ -9,8 +9,8 @@ pub fn shown(
     sizes: &[u8],
     pairs: &[u8],
     rows: &[u64],
-    out: &mut impl Write,
-) -> io::Result<()> {
+    out: &mut Out<impl Write + Drop>,
+) {
     let mut boats = [0u64; 2];
     reading::numbers(reading::TEN, b' ', text, at, &mut boats);
     of_pair(
@@ -29,15 +29,15 @@ fn of_pair(
     rows: &[u64],
     lower: usize,
     higher: usize,
-    out: &mut impl Write,
-) -> io::Result<()> {
+    out: &mut Out<impl Write + Drop>,
+) {
     let part = questions::place_of_rows(sizes, pairs, rows, lower, higher);
-    say::text(b"s", out)?;
-    say::number(part.from as u64, out)?;
-    say::number(part.to as u64, out)?;
+    say::text(b"s", out);
+    say::number(part.from as u64, out);
+    say::number(part.to as u64, out);
     say::words(
         questions::rows_of_pair(sizes, pairs, rows, lower, higher),
         out,
-    )?;
+    );
     say::text(b"\n", out)
 }

@@ -1,8 +1,8 @@
 // Write the tables to a file, read a file, and the desk's question.
+use crate::out::Out;
 use crate::{lent, say};
 use questions::Judged;
 use reader::FileRead;
-use std::io;
 use std::io::Write;
 use writer::Written;
 
@@ -16,16 +16,15 @@ pub fn write(
     sizes: &[u8],
     pairs: &[u8],
     rows: &[u64],
-    out: &mut impl Write,
-) -> io::Result<()> {
+    out: &mut Out<impl Write + Drop>,
+) {
     let mut terms = [0u64; 1];
     reading::numbers(reading::TEN, b' ', text, at, &mut terms);
     let bytes = terms[0] as usize;
     let mut room = [0u8; PART];
     if bytes <= PART {
-        writing(sizes, pairs, rows, &mut room[0..bytes], out)?;
+        writing(sizes, pairs, rows, &mut room[0..bytes], out);
     }
-    Ok(())
 }
 
 fn writing(
@@ -33,11 +32,11 @@ fn writing(
     pairs: &[u8],
     rows: &[u64],
     room: &mut [u8],
-    out: &mut impl Write,
-) -> io::Result<()> {
+    out: &mut Out<impl Write + Drop>,
+) {
     lent::fill_bytes(room);
-    say::written(written(sizes, pairs, rows, room), out)?;
-    say::bytes(room, out)?;
+    say::written(written(sizes, pairs, rows, room), out);
+    say::bytes(room, out);
     say::text(b"\n", out)
 }
 
@@ -46,26 +45,26 @@ fn written(sizes: &[u8], pairs: &[u8], rows: &[u64], room: &mut [u8]) -> Written
     writer::write(sizes, pairs, rows, room)
 }
 
-pub fn read(text: &[u8], at: usize, out: &mut impl Write) -> io::Result<()> {
+pub fn read(text: &[u8], at: usize, out: &mut Out<impl Write + Drop>) {
     let mut room = [0u8; reading::BYTES];
     let file = reading::bytes(text, at, &mut room);
     let bytes = file.count;
     without_plan(text, file.after, &room[0..bytes], out)
 }
 
-fn without_plan(text: &[u8], at: usize, file: &[u8], out: &mut impl Write) -> io::Result<()> {
+fn without_plan(text: &[u8], at: usize, file: &[u8], out: &mut Out<impl Write + Drop>) {
     let plan = [0u8; 1];
     lend(text, at, file, false, &plan[0..0], out)
 }
 
-pub fn ask(text: &[u8], at: usize, out: &mut impl Write) -> io::Result<()> {
+pub fn ask(text: &[u8], at: usize, out: &mut Out<impl Write + Drop>) {
     let mut room = [0u8; reading::BYTES];
     let file = reading::bytes(text, at, &mut room);
     let bytes = file.count;
     with_plan(text, file.after, &room[0..bytes], out)
 }
 
-fn with_plan(text: &[u8], at: usize, file: &[u8], out: &mut impl Write) -> io::Result<()> {
+fn with_plan(text: &[u8], at: usize, file: &[u8], out: &mut Out<impl Write + Drop>) {
     let mut room = [0u8; reading::BYTES];
     let slots = reading::bytes(text, at, &mut room);
     let count = slots.count;
@@ -79,8 +78,8 @@ fn lend(
     file: &[u8],
     is_desk: bool,
     plan: &[u8],
-    out: &mut impl Write,
-) -> io::Result<()> {
+    out: &mut Out<impl Write + Drop>,
+) {
     let mut terms = [0u64; 3];
     reading::numbers(reading::TEN, b' ', text, at, &mut terms);
     let boats = terms[0] as usize;
@@ -100,11 +99,10 @@ fn lend(
                     &mut pairs[0..bytes],
                     &mut rows[0..words],
                     out,
-                )?;
+                );
             }
         }
     }
-    Ok(())
 }
 
 fn lending(
@@ -114,10 +112,10 @@ fn lending(
     sizes: &mut [u8],
     pairs: &mut [u8],
     rows: &mut [u64],
-    out: &mut impl Write,
-) -> io::Result<()> {
+    out: &mut Out<impl Write + Drop>,
+) {
     fill(sizes, pairs, rows);
-    answer(file, is_desk, plan, sizes, pairs, rows, out)?;
+    answer(file, is_desk, plan, sizes, pairs, rows, out);
     shown(sizes, pairs, rows, out)
 }
 
@@ -134,8 +132,8 @@ fn answer(
     sizes: &mut [u8],
     pairs: &mut [u8],
     rows: &mut [u64],
-    out: &mut impl Write,
-) -> io::Result<()> {
+    out: &mut Out<impl Write + Drop>,
+) {
     if is_desk {
         say::asked(asked(file, plan, sizes, pairs, rows), out)
     } else {
@@ -143,10 +141,10 @@ fn answer(
     }
 }
 
-fn shown(sizes: &[u8], pairs: &[u8], rows: &[u64], out: &mut impl Write) -> io::Result<()> {
-    say::bytes(sizes, out)?;
-    say::bytes(pairs, out)?;
-    say::words(rows, out)?;
+fn shown(sizes: &[u8], pairs: &[u8], rows: &[u64], out: &mut Out<impl Write + Drop>) {
+    say::bytes(sizes, out);
+    say::bytes(pairs, out);
+    say::words(rows, out);
     say::text(b"\n", out)
 }
 
