@@ -9,7 +9,7 @@ use lib.Seq.{get_or-set_same, get_or-set_other}
 use Rattle.problem.specs.Tables.{Tables, boats, size, start}
 use Rattle.problem.specs.Sane.{Sane}
 use Rattle.problem.proofs.Starts.{start_zero, start_few}
-use Rattle.words.specs.Layout.{word, ChangedOnly, first_pair, Firsts}
+use Rattle.words.specs.Layout.{word, ChangedOnly, first_pair}
 use Rattle.words.proofs.ChangedOnly.{only_refl, only_trans, only_set}
 use Rattle.words.proofs.Firsts.{first_le, first_zero, start_first}
 
@@ -50,11 +50,6 @@ module _ {t : Tables} where
 
     first_only : ChangedOnly 192 384 w₀ (set w (192 + i) k)
     first_only = only_trans a.only (only_set w (192 + i) k (omega arith) (omega arith))
-
-    pub ahead_all : boats t ≤ i → Firsts t (set w (192 + boats t) k) × ChangedOnly 192 384 w₀ (set w (192 + boats t) k)
-    ahead_all le =
-        let e : boats t ≡ i = omega arith in
-        rw e (record { pair_from = λ j l. pairs_put j (omega arith); row_from = λ j l. rows_kept j (omega arith) }, first_only)
 
     -- the first pair of the boat after it, and boat i's slots
     module _ {k' z : ℕ} (next : (k ≤ k') × (k' ≡ first_pair t.pairs (i + 1))) (ez : z ≡ size t.sizes i) where

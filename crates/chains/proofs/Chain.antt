@@ -88,45 +88,27 @@ module _ (t : Tables) (s : Sane t) where
       ∙ before_first j j
 
 -- ---- no pair yet: the boats below j have all their slots
-pub record ChainBegun (n : ℕ) (w₀ w : List ℕ) (j : ℕ) : Type 0 where
-  pub up_to : j ≤ n
+pub record ChainBegun (w₀ w : List ℕ) (j : ℕ) : Type 0 where
   pub all_left : (k : ℕ) → k < j → word w (448 + k) ≡ all_at k
   pub only : ChangedOnly 448 4096 w₀ w
 
 -- ---- before pair k
 pub record ChainTo (t : Tables) (w₀ w : List ℕ) (k : ℕ) : Type 0 where
-  pub up_to : k ≤ listed t.pairs
   pub prev : (p : ℕ) → p < k → word w (512 + p) ≡ last_before t.pairs p (higher t.pairs p)
   pub last : (j : ℕ) → j < boats t → word w (448 + j) ≡ last_before t.pairs k j
   pub only : ChangedOnly 448 4096 w₀ w
 
-pub begun_none : (n : ℕ) (w : List ℕ) → ChainBegun n w w 0
-begun_none n w = record { up_to = omega arith; all_left = λ k l. absurd (omega arith); only = only_refl 448 4096 w }
-
-pub begun_more : {n : ℕ} {w₀ w : List ℕ} {j : ℕ} → n ≤ 64 → 8192 ≤ length w₀ → ChainBegun n w₀ w j → j < n → ChainBegun n w₀ (set w (448 + j) (4032 + j)) (j + 1)
-begun_more {w = w} {j = j} few long b l =
-    record {
-      up_to = omega arith;
-      all_left =
-          below_more (λ k. word (set w (448 + j) (4032 + j)) (448 + k) ≡ all_at k) j
-          (λ k lk. get_or-set_other w (448 + j) (448 + k) (4032 + j) 0 (omega arith) ∙ b.all_left k lk)
-          (get_or-set_same w (448 + j) (4032 + j) 0 (omega (arith, b.only.long)));
-      only = only_trans b.only (only_set w (448 + j) (4032 + j) (omega arith) (omega arith));
-    }
-
-pub chain_none : {t : Tables} {w₀ w : List ℕ} {j : ℕ} → ChainBegun (boats t) w₀ w j → boats t ≤ j → ChainTo t w w 0
+pub chain_none : {t : Tables} {w₀ w : List ℕ} {j : ℕ} → ChainBegun w₀ w j → boats t ≤ j → ChainTo t w w 0
 chain_none {t} {w = w} b le =
     record {
-      up_to = omega arith;
       prev = λ p l. absurd (omega arith);
       last = λ k l. b.all_left k (omega arith) ∙ sym (before_none t.pairs k);
       only = only_refl 448 4096 w;
     }
 
 module _ {t : Tables} (s : Sane t) {w₀ w : List ℕ} {k : ℕ} (c : ChainTo t w₀ w k) where
-  pub chain_all : listed t.pairs ≤ k → Chained t w
-  chain_all le =
-      let e : k ≡ listed t.pairs = omega (arith, c.up_to) in
+  pub chain_all : k ≡ listed t.pairs → Chained t w
+  chain_all e =
       record {
         prev = λ p l. c.prev p (omega arith) ∙ before_pair t s p l;
         last = λ j l. c.last j l ∙ ap (λ (q : ℕ). last_before t.pairs q j) e ∙ before_all t s j;
@@ -143,7 +125,6 @@ module _ {t : Tables} (s : Sane t) {w₀ w : List ℕ} {k : ℕ} (c : ChainTo t 
     pub chain_more : 8192 ≤ length w₀ → ChainTo t w₀ (set v at (4096 + k)) (k + 1)
     chain_more long =
         record {
-          up_to = omega arith;
           prev =
               below_more (λ p. word (set v at (4096 + k)) (512 + p) ≡ last_before t.pairs p (higher t.pairs p)) k
               (λ p lp.

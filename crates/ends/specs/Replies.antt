@@ -1,15 +1,10 @@
 -- The reply that says how a run came out.
 use Rattle.problem.specs.declared.Answer.{Answer}
-use Rattle.problem.specs.declared.Answer.TheVariants.{Solved, NoPlan, Undecided, Refused}
+use Rattle.problem.specs.declared.Answer.TheVariants.{Solved, NoPlan, Undecided}
 use Rattle.problem.specs.declared.Reply.{Reply}
-use Rattle.problem.specs.declared.Refusal.{Refusal}
 use Rattle.ends.specs.declared.Ended.{Ended}
 use Rattle.ends.specs.declared.Ended.TheVariants.{Solved as EndSolved, NoPlan as EndNoPlan, Undecided as EndUndecided}
 use Rattle.ends.specs.Ends.{counts_then}
-
--- a refusal as a reply
-abbrev pub refused_reply : Refusal → Reply
-refused_reply why = record { answer = Refused why; checks = 0; trials = 0 }
 
 -- the end of a search as a reply: where an undecided one stands is not told
 abbrev pub answer_of : Ended → Answer

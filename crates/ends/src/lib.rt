@@ -7,10 +7,10 @@ ghost use Rattle.events.specs.declared.Counts.{Counts};
 ghost use Rattle.ends.specs.declared.Ended.TheVariants.{Solved};
 ghost use Rattle.ends.specs.Ends.{decision_then};
 ghost use Rattle.runs.specs.Runs.{written};
-ghost use Rattle.ends.specs.Replies.{refused_reply, reply_at_end};
+ghost use Rattle.ends.specs.Replies.{reply_at_end};
 
 use events::Counts;
-use problem::{Allowance, Answer, Refusal, Reply};
+use problem::{Allowance, Answer, Reply};
 
 // Where a run stands that an allowance ends: the boat and the slot at hand, and how many events of that slot's step are made.
 #[derive(Clone, Copy)]
@@ -28,26 +28,14 @@ pub enum Ended {
     Undecided(Counts, Allowance, Place),
 }
 
-pub fn refused(why: Refusal) -> Reply
-    ensures { result ≡ refused_reply why }
-{
-    Reply {
-        answer: Answer::Refused(why),
-        checks: 0,
-        trials: 0,
-    }
-}
-
 // The slots of n boats go to the plan's first n bytes.
 fn copy_plan(n: usize, work: &[u64], plan: &mut [u8])
     requires n_in_bounds { (n ≤ length work.now) × (n ≤ length plan.old) }
     requires by_index { (k : ℕ) → k < n → word work.now k < 256 }
     ensures { plan.new ≡ take n work.now ++ drop n plan.old }
 {
-    let mut k: usize = 0;
-    while k < n {
+    for k in 0..n {
         plan[k] = work[k] as u8;
-        k += 1;
     }
 }
 
@@ -57,10 +45,8 @@ pub fn write_plan(ended: Ended, n: usize, work: &[u64], plan: &mut [u8])
     requires k_bound { (c : Counts) → ended ≡ Solved c → (k : ℕ) → k < n → word work.now k < 256 }
     ensures { plan.new ≡ written (decision_then ended (take n work.now)) ++ drop (length (written (decision_then ended (take n work.now)))) plan.old }
 {
-    match ended {
-        Ended::Solved(_) => copy_plan(n, work, plan),
-        Ended::NoPlan(_) => {}
-        Ended::Undecided(_, _, _) => {}
+    if let Ended::Solved(_) = ended {
+        copy_plan(n, work, plan)
     }
 }
 
@@ -75,12 +61,14 @@ fn reply(answer: Answer, counts: Counts) -> Reply
 }
 
 // Where an undecided run stands is not told.
-pub fn reply_of(ended: Ended) -> Reply
-    ensures { result ≡ reply_at_end ended }
-{
-    match ended {
-        Ended::Solved(k) => reply(Answer::Solved, k),
-        Ended::NoPlan(k) => reply(Answer::NoPlan, k),
-        Ended::Undecided(k, which, _) => reply(Answer::Undecided(which), k),
+impl From<Ended> for Reply {
+    ghost from_gives = { λ ended reply. reply ≡ reply_at_end ended };
+
+    fn from(ended: Ended) -> Self {
+        match ended {
+            Ended::Solved(k) => reply(Answer::Solved, k),
+            Ended::NoPlan(k) => reply(Answer::NoPlan, k),
+            Ended::Undecided(k, which, _) => reply(Answer::Undecided(which), k),
+        }
     }
 }

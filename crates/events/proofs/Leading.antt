@@ -6,12 +6,11 @@ use Prim.Native.Nat.{ℕ, suc, ◌+◌, ◌-◌, ◌<◌}
 use native.Mathlib.Omega.{arith}
 use native.Mathlib.Nat.{add-zero, le_refl}
 use borrow.Author.Tests.{ltb-true, ltb-false, leb-true, leb-false}
-use lib.Dec.{ltb}
 use lib.ListN.{length, length-append}
 use Rattle.problem.specs.declared.Allowance.{Allowance}
 use Rattle.problem.specs.declared.Allowance.TheVariants.{Checks, Trials}
 use Rattle.events.specs.declared.Counts.{Counts}
-use Rattle.events.specs.declared.Counted.TheVariants.{Within, Out}
+use Rattle.std.specs.Prelude.{Some, None}
 use Rattle.events.specs.Events.{Event, trial, check, trials_of, checks_of, trials, checks, Search, ◌then◌}
 use Rattle.events.specs.Allowances.{outcome, undecided}
 use Rattle.events.specs.Counts.{covered, with_checks, with_trials, trial_counted, check_counted, checks_counted, with_all_checks, Fits, counting, Makes, Leads, cut_at, UsedUp, StopsIn}
@@ -19,11 +18,11 @@ use Rattle.events.proofs.Counting.{trials_append, checks_append, length_counts}
 use Rattle.events.proofs.Cutting.{cut_no_trial, cut_no_check, cut_on, Way, fits, no_check, no_trial, way}
 
 -- ---- what a cover says
-within_case : (b : Bool) (p k : Counts) → covered b p ≡ Within k → (b ≡ true) × (p ≡ k)
+within_case : (b : Bool) (p k : Counts) → covered b p ≡ Some k → (b ≡ true) × (p ≡ k)
 within_case true p k e = (refl, cc)
 within_case false p k e = let z : ◌≡◌ {A = ℕ} 0 1 = cc in absurd (omega arith)
 
-out_case : (b : Bool) (p : Counts) → covered b p ≡ Out → b ≡ false
+out_case : (b : Bool) (p : Counts) → covered b p ≡ None → b ≡ false
 out_case true p e = let z : ◌≡◌ {A = ℕ} 0 1 = cc in absurd (omega arith)
 out_case false p e = refl
 
@@ -58,7 +57,7 @@ pub makes_eq : {m k : Counts} {es fs : List Event} → es ≡ fs → Makes m es 
 makes_eq {m} {k} e a = subst (λ (gs : List Event). Makes m gs k) e a
 
 module _ (m k : Counts) (f : Fits m) where
-  pub makes_trial : (i a : ℕ) → trial_counted m ≡ Within k → Makes m (trial i a ∷ []) k
+  pub makes_trial : (i a : ℕ) → trial_counted m ≡ Some k → Makes m (trial i a ∷ []) k
   unfolding checks_of trials_of
   makes_trial i a e =
       let w = within_case _ (with_trials m (m.trials + 1)) k e in
@@ -69,7 +68,7 @@ module _ (m k : Counts) (f : Fits m) where
         fits = record { checks_fit = f.checks_fit; trials_fit = omega arith };
       })
 
-  pub makes_check : (h x i a : ℕ) → check_counted m ≡ Within k → Makes m (check h x i a ∷ []) k
+  pub makes_check : (h x i a : ℕ) → check_counted m ≡ Some k → Makes m (check h x i a ∷ []) k
   unfolding checks_of trials_of
   makes_check h x i a e =
       let w = within_case _ (with_checks m (m.checks + 1)) k e in
@@ -81,7 +80,7 @@ module _ (m k : Counts) (f : Fits m) where
       })
 
   -- many checks at once
-  pub makes_checks : (ks : List Event) (due : ℕ) → trials ks ≡ 0 → checks ks ≡ due → checks_counted m due ≡ Within k → Makes m ks k
+  pub makes_checks : (ks : List Event) (due : ℕ) → trials ks ≡ 0 → checks ks ≡ due → checks_counted m due ≡ Some k → Makes m ks k
   makes_checks ks due none all e =
       let w = within_case _ (with_checks m (m.checks + due)) k e in
       let l = leb-true due (m.most_checks - m.checks) w.0 in
@@ -93,7 +92,7 @@ module _ (m k : Counts) (f : Fits m) where
 
 -- ---- what is not made: one event leaves the counts, many checks use the allowance up
 module _ (m : Counts) (f : Fits m) where
-  pub trial_stops : (i a : ℕ) (es : List Event) → trial_counted m ≡ Out → StopsIn m (trial i a ∷ es) Trials 0 m
+  pub trial_stops : (i a : ℕ) (es : List Event) → trial_counted m ≡ None → StopsIn m (trial i a ∷ es) Trials 0 m
   trial_stops i a es e =
       let l = ltb-false m.trials m.most_trials (out_case _ (with_trials m (m.trials + 1)) e) in
       record {
@@ -106,7 +105,7 @@ module _ (m : Counts) (f : Fits m) where
         used_up = (refl, omega (arith, f.trials_fit));
       }
 
-  pub check_stops : (h x i a : ℕ) (es : List Event) → check_counted m ≡ Out → StopsIn m (check h x i a ∷ es) Checks 0 m
+  pub check_stops : (h x i a : ℕ) (es : List Event) → check_counted m ≡ None → StopsIn m (check h x i a ∷ es) Checks 0 m
   check_stops h x i a es e =
       let l = ltb-false m.checks m.most_checks (out_case _ (with_checks m (m.checks + 1)) e) in
       record {
@@ -120,7 +119,7 @@ module _ (m : Counts) (f : Fits m) where
       }
 
   module _ (ks : List Event) (due : ℕ) (none : trials ks ≡ 0) (all : checks ks ≡ due) where
-    pub checks_stop : checks_counted m due ≡ Out → StopsIn m ks Checks (m.most_checks - m.checks) (with_all_checks m)
+    pub checks_stop : checks_counted m due ≡ None → StopsIn m ks Checks (m.most_checks - m.checks) (with_all_checks m)
     checks_stop e = by (way (m.most_checks - m.checks) 0 ks) none all (leb-false due _ (out_case _ (with_checks m (m.checks + due)) e))
       where
         by : {es : List Event} → Way (m.most_checks - m.checks) 0 es → trials es ≡ 0 → checks es ≡ due → m.most_checks - m.checks < due →

@@ -1,19 +1,17 @@
 -- The counts beside their allowances: what is due is counted while its allowance covers it.
-use Rattle.std.specs.Prelude.{◌≡◌, Bool, true, false, List, ◌∷◌, ◌++◌, ℕ, ◌+◌, ◌-◌, ◌≤◌, ltb, leb, length}
+use Rattle.std.specs.Prelude.{◌≡◌, Bool, true, false, List, ◌∷◌, ◌++◌, ℕ, ◌+◌, ◌-◌, ◌≤◌, ltb, leb, length, Option, Some, None}
 use Rattle.problem.specs.declared.Allowance.{Allowance}
 use Rattle.problem.specs.declared.Allowance.TheVariants.{Checks, Trials}
 use Rattle.events.specs.declared.Counts.{Counts}
-use Rattle.events.specs.declared.Counted.{Counted}
-use Rattle.events.specs.declared.Counted.TheVariants.{Within, Out}
 use Rattle.events.specs.Events.{Event, trial, check, Search, trials, checks, ◌then◌}
 use Rattle.events.specs.Allowances.{Outcome, cut_from}
 
 abbrev pub fresh : (checks trials : ℕ) → Counts
 fresh checks trials = record { checks = 0; trials = 0; most_checks = checks; most_trials = trials }
 
-abbrev pub covered : Bool → (within : Counts) → Counted
-covered true within = Within within
-covered false within = Out
+abbrev pub covered : Bool → (within : Counts) → Option Counts
+covered true within = Some within
+covered false within = None
 
 abbrev pub with_checks : Counts → ℕ → Counts
 with_checks m checks = record { checks = checks; trials = m.trials; most_checks = m.most_checks; most_trials = m.most_trials }
@@ -21,14 +19,14 @@ with_checks m checks = record { checks = checks; trials = m.trials; most_checks 
 abbrev pub with_trials : Counts → ℕ → Counts
 with_trials m trials = record { checks = m.checks; trials = trials; most_checks = m.most_checks; most_trials = m.most_trials }
 
-abbrev pub trial_counted : Counts → Counted
+abbrev pub trial_counted : Counts → Option Counts
 trial_counted m = covered (ltb m.trials m.most_trials) (with_trials m (m.trials + 1))
 
-abbrev pub check_counted : Counts → Counted
+abbrev pub check_counted : Counts → Option Counts
 check_counted m = covered (ltb m.checks m.most_checks) (with_checks m (m.checks + 1))
 
 -- so many checks, one after the other
-abbrev pub checks_counted : Counts → (due : ℕ) → Counted
+abbrev pub checks_counted : Counts → (due : ℕ) → Option Counts
 checks_counted m due = covered (leb due (m.most_checks - m.checks)) (with_checks m (m.checks + due))
 
 -- .. and where they are not all covered, as many as the allowance has left: it is used up then

@@ -13,13 +13,7 @@ pub struct Counts {
     pub most_trials: u64,
 }
 
-// The counts after what was due; or it is not covered, and the counts are as they were. (They are not handed back then: the search's loops would have to choose between two.)
-#[derive(Drop)]
-pub enum Counted {
-    Within(Counts),
-    Out,
-}
-
+// What is due is counted, or it is not covered: then there is None, and the counts are as they were.
 impl Counts {
     pub fn new(most_checks: u64, most_trials: u64) -> Self
         ensures { result ≡ fresh most_checks most_trials }
@@ -33,57 +27,45 @@ impl Counts {
     }
 
     // A trial is due.
-    pub fn trial(self) -> Counted
+    pub fn trial(self) -> Option<Counts>
         ensures { result ≡ trial_counted self }
     {
-        let tried = self.trials;
-        let most = self.most_trials;
-        if tried < most {
-            Counted::Within(Counts {
-                checks: self.checks,
-                trials: tried + 1,
-                most_checks: self.most_checks,
-                most_trials: most,
+        if self.trials < self.most_trials {
+            Some(Counts {
+                trials: self.trials + 1,
+                ..self
             })
         } else {
-            Counted::Out
+            None
         }
     }
 
     // A check is due.
-    pub fn check(self) -> Counted
+    pub fn check(self) -> Option<Counts>
         ensures { result ≡ check_counted self }
     {
-        let made = self.checks;
-        let most = self.most_checks;
-        if made < most {
-            Counted::Within(Counts {
-                checks: made + 1,
-                trials: self.trials,
-                most_checks: most,
-                most_trials: self.most_trials,
+        if self.checks < self.most_checks {
+            Some(Counts {
+                checks: self.checks + 1,
+                ..self
             })
         } else {
-            Counted::Out
+            None
         }
     }
 
     // So many checks are due, one after the other.
-    pub fn check_each(self, due: u64) -> Counted
+    pub fn check_each(self, due: u64) -> Option<Counts>
         requires { self.checks ≤ self.most_checks }
         ensures { result ≡ checks_counted self due }
     {
-        let made = self.checks;
-        let most = self.most_checks;
-        if due <= most - made {
-            Counted::Within(Counts {
-                checks: made + due,
-                trials: self.trials,
-                most_checks: most,
-                most_trials: self.most_trials,
+        if due <= self.most_checks - self.checks {
+            Some(Counts {
+                checks: self.checks + due,
+                ..self
             })
         } else {
-            Counted::Out
+            None
         }
     }
 
@@ -91,12 +73,9 @@ impl Counts {
     pub fn all_checks(self) -> Counts
         ensures { result ≡ with_all_checks self }
     {
-        let most = self.most_checks;
         Counts {
-            checks: most,
-            trials: self.trials,
-            most_checks: most,
-            most_trials: self.most_trials,
+            checks: self.most_checks,
+            ..self
         }
     }
 }

@@ -1,14 +1,13 @@
 -- What the exported functions hand over, from what the operations say on paper.
 use mathlib.Core.Path.{◌≡◌, ap}
 use mathlib.Core.Bool.{false}
-use Prim.Native.Nat.{ℕ, ◌+◌, ◌≤◌}
+use Prim.Native.Nat.{◌+◌, ◌≤◌}
 use native.Mathlib.Omega.{arith}
 use borrow.Author.Tests.{ne_eqb}
 use Rattle.problem.specs.Replies.{refusal_number, refusal_place, refusal_told}
 use Rattle.problem.specs.declared.Refusal.{Refusal}
 use Rattle.problem.specs.declared.Refusal.TheVariants.{Method, Boats, Size, PairBytes, PairNoBoat, PairSameBoat, PairHigherFirst, PairNotRising, RowWords, RowBit, PlanMemory, WorkMemory, GivenLength, GivenSlot, Mark, FileEnd, FileBoat, FileCount, FileRest, Room}
-use Rattle.handing.specs.declared.HarbourReply.{HarbourReply}
-use Rattle.handing.specs.Handed.{handed, fine_or_refused, length_or_place, handed_written}
+use Rattle.handing.specs.Handed.{fine_or_refused, length_or_place, handed_written}
 
 -- the largest number is 54, so that 100 can be added
 pub number_small : (why : Refusal) → refusal_number why ≤ 54
@@ -32,11 +31,6 @@ number_small (FileBoat byte) = omega arith
 number_small (FileCount byte) = omega arith
 number_small (FileRest byte) = omega arith
 number_small Room = omega arith
-
--- a refusal by its number and place
-pub refusal_handed : (why : Refusal) (r : HarbourReply) (number place checks trials : ℕ) → number ≡ refusal_number why → place ≡ refusal_place why →
-    r ≡ record { answer = 100 + number; place = place; checks = checks; trials = trials } → r ≡ handed (refusal_told why) checks trials
-refusal_handed why r number place checks trials n p e = rw (← n, ← p) e
 
 -- a refusal is not taken for fine tables
 pub refusal_stays : (why : Refusal) → fine_or_refused (refusal_told why) ≡ refusal_told why

@@ -3,17 +3,13 @@
 
 ghost use Rattle.std.specs.Prelude.{◌≡◌};
 ghost use Rattle.problem.specs.Replies.{answer_told, refusal_told};
-ghost use Rattle.problem.specs.declared.Answer.TheVariants.{Undecided};
 ghost use Rattle.tables.specs.Replies.{examined_told};
 ghost use Rattle.questions.specs.Replies.{judged_told, broken_told};
 ghost use Rattle.writer.specs.Replies.{written_told};
 ghost use Rattle.handing.specs.Handed.{handed, fine_or_refused, handed_read, handed_written};
 
-use problem::{Allowance, Answer, Refusal, Reply};
-use questions::{Broken, Judged};
+use problem::{Allowance, Answer, Numbered, Problem, Refusal, Reply};
 use reader::FileRead;
-use tables::Examined;
-use writer::Written;
 
 // An answer by its number, its place, and both counts.
 #[repr(C)]
@@ -68,113 +64,127 @@ impl HarbourReply {
 
     // A refusal's number is added to it.
     pub const REFUSED: u64 = 100;
-}
 
-fn numbered(answer: u64, place: u64, checks: u64, trials: u64) -> HarbourReply
-    ensures { result ≡ record { answer = answer; place = place; checks = checks; trials = trials } }
-{
-    HarbourReply {
-        answer,
-        place,
-        checks,
-        trials,
+    // What comes of no run has no counts.
+    fn uncounted(answer: u64, place: u64) -> Self
+        ensures { result ≡ record { answer = answer; place = place; checks = 0; trials = 0 } }
+    {
+        Self {
+            answer,
+            place,
+            checks: 0,
+            trials: 0,
+        }
     }
 }
 
-fn refused(why: Refusal, checks: u64, trials: u64) -> HarbourReply
-    ensures { result ≡ handed (refusal_told why) checks trials }
-{
-    let told = problem::number_of(why);
-    numbered(
-        HarbourReply::REFUSED + told.number,
-        told.place,
-        checks,
-        trials,
-    )
-}
+impl From<Refusal> for HarbourReply {
+    ghost from_gives = { λ why reply. reply ≡ handed (refusal_told why) 0 0 };
 
-fn undecided(by: Allowance, checks: u64, trials: u64) -> HarbourReply
-    ensures { result ≡ handed (answer_told (Undecided by)) checks trials }
-{
-    match by {
-        Allowance::Checks => numbered(HarbourReply::UNDECIDED_BY_CHECKS, 0, checks, trials),
-        Allowance::Trials => numbered(HarbourReply::UNDECIDED_BY_TRIALS, 0, checks, trials),
+    fn from(why: Refusal) -> Self {
+        let told = Numbered::from(why);
+        Self::uncounted(Self::REFUSED + told.number, told.place)
     }
 }
 
-pub fn replied(reply: Reply) -> HarbourReply
-    ensures { result ≡ handed (answer_told reply.answer) reply.checks reply.trials }
-{
-    let answer = reply.answer;
-    match answer {
-        Answer::Solved => numbered(HarbourReply::SOLVED, 0, reply.checks, reply.trials),
-        Answer::NoPlan => numbered(HarbourReply::NO_PLAN, 0, reply.checks, reply.trials),
-        Answer::Undecided(by) => undecided(by, reply.checks, reply.trials),
-        Answer::Refused(why) => refused(why, reply.checks, reply.trials),
+impl From<Answer> for HarbourReply {
+    ghost from_gives = { λ answer reply. reply ≡ handed (answer_told answer) 0 0 };
+
+    fn from(answer: Answer) -> Self {
+        match answer {
+            Answer::Solved => Self::uncounted(Self::SOLVED, 0),
+            Answer::NoPlan => Self::uncounted(Self::NO_PLAN, 0),
+            Answer::Undecided(Allowance::Checks) => Self::uncounted(Self::UNDECIDED_BY_CHECKS, 0),
+            Answer::Undecided(Allowance::Trials) => Self::uncounted(Self::UNDECIDED_BY_TRIALS, 0),
+            Answer::Refused(why) => Self::from(why),
+        }
     }
 }
 
-pub fn examined(found: Examined) -> HarbourReply
-    ensures { result ≡ handed (fine_or_refused (examined_told found)) 0 0 }
-{
-    match found {
-        Examined::Fine(_) => numbered(HarbourReply::FINE, 0, 0, 0),
-        Examined::Refused(why) => refused(why, 0, 0),
+// A run's answer beside its counts.
+impl From<Reply> for HarbourReply {
+    ghost from_gives = { λ reply numbers. numbers ≡ handed (answer_told reply.answer) reply.checks reply.trials };
+
+    fn from(reply: Reply) -> Self {
+        Self {
+            checks: reply.checks,
+            trials: reply.trials,
+            ..Self::from(reply.answer)
+        }
     }
 }
 
-pub fn judged(found: Judged) -> HarbourReply
-    ensures { result ≡ handed (judged_told found) 0 0 }
-{
-    match found {
-        Judged::Lawful => numbered(HarbourReply::LAWFUL, 0, 0, 0),
-        Judged::Unlawful => numbered(HarbourReply::UNLAWFUL, 0, 0, 0),
-        Judged::Refused(why) => refused(why, 0, 0),
+// Are the tables fit?
+impl From<Result<Problem, Refusal>> for HarbourReply {
+    ghost from_gives = { λ found reply. reply ≡ handed (fine_or_refused (examined_told found)) 0 0 };
+
+    fn from(found: Result<Problem, Refusal>) -> Self {
+        match found {
+            Ok(_) => Self::uncounted(Self::FINE, 0),
+            Err(why) => Self::from(why),
+        }
     }
 }
 
-pub fn broken(found: Broken) -> HarbourReply
-    ensures { result ≡ handed (broken_told found) 0 0 }
-{
-    match found {
-        Broken::Nowhere => numbered(HarbourReply::UNBROKEN, 0, 0, 0),
-        Broken::Pair(pair) => numbered(HarbourReply::BROKEN, pair as u64, 0, 0),
-        Broken::Refused(why) => refused(why, 0, 0),
+// Is the plan lawful?
+impl From<Result<bool, Refusal>> for HarbourReply {
+    ghost from_gives = { λ found reply. reply ≡ handed (judged_told found) 0 0 };
+
+    fn from(found: Result<bool, Refusal>) -> Self {
+        match found {
+            Ok(true) => Self::uncounted(Self::LAWFUL, 0),
+            Ok(false) => Self::uncounted(Self::UNLAWFUL, 0),
+            Err(why) => Self::from(why),
+        }
     }
 }
 
-pub fn file_read(reply: FileRead) -> HarbourReadReply
-    ensures { result ≡ handed_read (examined_told reply.found) reply.boats reply.pair_bytes reply.row_words }
-{
-    let found = reply.found;
-    let told = examined(found);
-    HarbourReadReply {
-        answer: told.answer,
-        place: told.place,
-        boats: reply.boats as u64,
-        pair_bytes: reply.pair_bytes as u64,
-        row_words: reply.row_words as u64,
+// Which pair does the plan break?
+impl From<Result<Option<usize>, Refusal>> for HarbourReply {
+    ghost from_gives = { λ found reply. reply ≡ handed (broken_told found) 0 0 };
+
+    fn from(found: Result<Option<usize>, Refusal>) -> Self {
+        match found {
+            Ok(None) => Self::uncounted(Self::UNBROKEN, 0),
+            Ok(Some(pair)) => Self::uncounted(Self::BROKEN, pair as u64),
+            Err(why) => Self::from(why),
+        }
     }
 }
 
-fn file_written(answer: u64, place: u64, length: u64) -> HarbourWritten
-    ensures { result ≡ record { answer = answer; place = place; length = length } }
-{
-    HarbourWritten {
-        answer,
-        place,
-        length,
+impl From<FileRead> for HarbourReadReply {
+    ghost from_gives = { λ reply numbers. numbers ≡ handed_read (examined_told reply.found) reply.boats reply.pair_bytes reply.row_words };
+
+    fn from(reply: FileRead) -> Self {
+        let told = HarbourReply::from(reply.found);
+        Self {
+            answer: told.answer,
+            place: told.place,
+            boats: reply.boats as u64,
+            pair_bytes: reply.pair_bytes as u64,
+            row_words: reply.row_words as u64,
+        }
     }
 }
 
-pub fn written(found: Written) -> HarbourWritten
-    ensures { result ≡ handed_written (written_told found) }
-{
-    match found {
-        Written::Done(length) => file_written(HarbourReply::WRITTEN, 0, length as u64),
-        Written::Refused(why) => {
-            let told = refused(why, 0, 0);
-            file_written(told.answer, told.place, 0)
+impl From<Result<usize, Refusal>> for HarbourWritten {
+    ghost from_gives = { λ found written. written ≡ handed_written (written_told found) };
+
+    fn from(found: Result<usize, Refusal>) -> Self {
+        match found {
+            Ok(length) => Self {
+                answer: HarbourReply::WRITTEN,
+                place: 0,
+                length: length as u64,
+            },
+            Err(why) => {
+                let told = HarbourReply::from(why);
+                Self {
+                    answer: told.answer,
+                    place: told.place,
+                    length: 0,
+                }
+            }
         }
     }
 }

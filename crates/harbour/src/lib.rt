@@ -38,14 +38,14 @@ pub extern "C" fn harbour_run(
     ensures work_after { work.new ≡ (run_result method (tables sizes.now pairs.now rows.now) plan.old work.old checks trials).work }
 {
     let reply = planner::run(method, sizes, pairs, rows, plan, work, checks, trials);
-    handing::replied(reply)
+    HarbourReply::from(reply)
 }
 
 #[unsafe(no_mangle)]
 pub extern "C" fn harbour_examine(sizes: &[u8], pairs: &[u8], rows: &[u64]) -> HarbourReply
     ensures { result ≡ handed (fine_or_refused (examination (tables sizes.now pairs.now rows.now))) 0 0 }
 {
-    handing::examined(tables::examine(sizes, pairs, rows))
+    HarbourReply::from(tables::examine(sizes, pairs, rows))
 }
 
 #[unsafe(no_mangle)]
@@ -57,7 +57,7 @@ pub extern "C" fn harbour_lawful(
 ) -> HarbourReply
     ensures { result ≡ handed (lawful_question (tables sizes.now pairs.now rows.now) given.now) 0 0 }
 {
-    handing::judged(questions::is_lawful(sizes, pairs, rows, given))
+    HarbourReply::from(questions::is_lawful(sizes, pairs, rows, given))
 }
 
 #[unsafe(no_mangle)]
@@ -69,7 +69,7 @@ pub extern "C" fn harbour_broken(
 ) -> HarbourReply
     ensures { result ≡ handed (broken_question (tables sizes.now pairs.now rows.now) given.now) 0 0 }
 {
-    handing::broken(questions::first_broken(sizes, pairs, rows, given))
+    HarbourReply::from(questions::first_broken(sizes, pairs, rows, given))
 }
 
 #[unsafe(no_mangle)]
@@ -84,8 +84,8 @@ pub extern "C" fn harbour_rows(
 {
     let part = questions::place_of_rows(sizes, pairs, rows, lower as usize, higher as usize);
     HarbourPart {
-        start: part.from as u64,
-        length: (part.to - part.from) as u64,
+        start: part.start as u64,
+        length: part.len() as u64,
     }
 }
 
@@ -99,7 +99,7 @@ pub extern "C" fn harbour_read(
     ensures value { result ≡ handed_file (read_result file.now (rooms sizes.old pairs.old rows.old)) }
     ensures rows_after { rooms sizes.new pairs.new rows.new ≡ (read_result file.now (rooms sizes.old pairs.old rows.old)).rooms }
 {
-    handing::file_read(reader::read(file, sizes, pairs, rows))
+    HarbourReadReply::from(reader::read(file, sizes, pairs, rows))
 }
 
 #[unsafe(no_mangle)]
@@ -112,7 +112,7 @@ pub extern "C" fn harbour_write(
     ensures value { result ≡ handed_written (write_answer (tables sizes.now pairs.now rows.now) file.old) }
     ensures file_after { file.new ≡ written_room (tables sizes.now pairs.now rows.now) file.old }
 {
-    handing::written(writer::write(sizes, pairs, rows, file))
+    HarbourWritten::from(writer::write(sizes, pairs, rows, file))
 }
 
 #[unsafe(no_mangle)]
@@ -126,5 +126,5 @@ pub extern "C" fn harbour_lawful_file(
     ensures value { result ≡ (desk_result file.now given.now (rooms sizes.old pairs.old rows.old)).answer.number }
     ensures rows_after { rooms sizes.new pairs.new rows.new ≡ (desk_result file.now given.now (rooms sizes.old pairs.old rows.old)).rooms }
 {
-    handing::judged(reader::is_lawful_by(file, given, sizes, pairs, rows)).answer
+    HarbourReply::from(reader::is_lawful_by(file, given, sizes, pairs, rows)).answer
 }

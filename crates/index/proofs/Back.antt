@@ -27,7 +27,7 @@ abbrev IndexedTo : Tables → (k : ℕ) → List ℕ → Type 0
 IndexedTo t k w = (h i : ℕ) → h < i → i < boats t → word w (512 + tri i + h) ≡ indexed_at t k (place t.pairs h i)
 
 -- where the word of pair k is
-abbrev pub index_place : Tables → ℕ → ℕ
+abbrev index_place : Tables → ℕ → ℕ
 index_place t k = 512 + tri (higher t.pairs k) + lower t.pairs k
 
 abbrev index_put : Tables → (k : ℕ) → List ℕ → List ℕ
@@ -35,8 +35,8 @@ index_put t k w = set w (index_place t k) (start t.sizes t.pairs k + 1)
 
 -- before pair k, whose rows begin at n
 pub record BackTo (t : Tables) (w₀ w : List ℕ) (n k : ℕ) : Type 0 where
-  pub up_to : k ≤ listed t.pairs
   pub begins : n ≡ start t.sizes t.pairs k
+  pub few : n ≤ 129024
   pub filled : IndexedTo t k w
   pub only : ChangedOnly 512 4096 w₀ w
 
@@ -63,7 +63,7 @@ module _ {t : Tables} (s : Sane t) where
   within : (h i : ℕ) → h < i → i < boats t → 512 + tri i + h < 4096
   within h i lh li = omega (arith, tri_small i (omega arith))
 
-  pub index_place_lt : (k : ℕ) → k < listed t.pairs → index_place t k < 4096
+  index_place_lt : (k : ℕ) → k < listed t.pairs → index_place t k < 4096
   index_place_lt k l = within (lower t.pairs k) (higher t.pairs k) (s.lower_first k l) (s.boats_named k l)
 
   -- no other pair's word is where pair k's is
@@ -90,25 +90,22 @@ module _ {t : Tables} (s : Sane t) where
   pub back_none : (w : List ℕ) → Zero 512 4096 w → BackTo t w w 0 0
   back_none w none =
       record {
-        up_to = omega arith;
         begins = sym (start_zero t.sizes t.pairs);
+        few = omega arith;
         filled = λ h i lh li. none (512 + tri i + h) (omega arith) (within h i lh li) ∙ sym (at_from t 0 (place t.pairs h i) (omega arith));
         only = only_refl 512 4096 w;
       }
 
   module _ {w₀ w : List ℕ} {n k : ℕ} (b : BackTo t w₀ w n k) where
-    pub back_few : n ≤ 129024
-    back_few = omega (arith, start_few t s k b.up_to)
-
     pub back_more : {at z : ℕ} → 8192 ≤ length w₀ → k < listed t.pairs → at ≡ index_place t k → z ≡ size t.sizes (lower t.pairs k)
         → BackTo t w₀ (set w at (n + 1)) (n + z) (k + 1)
     back_more {at = at} long l ea ez =
         record {
-          up_to = omega arith;
           begins = omega (arith, start_next t.sizes t.pairs k);
+          few = omega (arith, start_next t.sizes t.pairs k, start_few t s (k + 1) (omega arith));
           filled = rw (ea, b.begins) (indexed_more k w l (omega arith) b.filled);
           only = only_trans b.only (only_set w at (n + 1) (omega arith) (omega (arith, index_place_lt k l)));
         }
 
-    pub back_all : listed t.pairs ≤ k → Indexed t w
-    back_all le = let e : k ≡ listed t.pairs = omega arith in indexed_all t w (rw e at b.filled)
+    pub back_all : k ≡ listed t.pairs → Indexed t w
+    back_all e = indexed_all t w (rw e at b.filled)

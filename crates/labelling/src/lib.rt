@@ -2,14 +2,13 @@
 #![tactic(auto)]
 
 ghost use Rattle.std.specs.Prelude.{◌≡◌};
-ghost use Rattle.problem.specs.Tables.{Tables, tables};
 ghost use Rattle.visits.specs.Visits.{Standing};
 ghost use Rattle.moves.specs.declared.Moves.TheVariants.{LookingBack, Marking, LookingAhead};
 ghost use Rattle.moves.specs.Memory.{Kept};
 ghost use Rattle.labelling.specs.Labels.{Labels};
 
 use events::Counts;
-use moves::Moves;
+use tables::FineTables;
 use visits::{Backward, Visited};
 
 // What the forward move of every method answers. Where the run ends, the set in hand, which is not stored yet, and the slot; inside its step, how many of the step's events are made.
@@ -21,24 +20,20 @@ pub enum Labelled {
     OutOfTrials(Counts, u64, u64),
 }
 
-fn label_back(
+pub fn label_back(
     backward: Backward,
-    sizes: &[u8],
-    pairs: &[u8],
-    rows: &[u64],
+    tables: &FineTables,
     i: usize,
     from: u64,
     start: Counts,
     work: &mut [u64],
 ) -> Labelled
-    ghost t: { Tables }
-    requires rows_value { tables sizes.now pairs.now rows.now ≡ t }
-    requires standing { Standing t work.old i start }
-    requires kept { Kept (LookingBack backward) t work.old i }
-    ensures { Labels (LookingBack backward) t work.old i from start work.new result }
+    requires standing { Standing tables.now work.old i start }
+    requires kept { Kept (LookingBack backward) tables.now work.old i }
+    ensures { Labels (LookingBack backward) tables.now work.old i from start work.new result }
 {
     let with = storing::begun_set(backward, i, work);
-    match looking_back::visit(sizes, pairs, rows, i, from, with, start, work) {
+    match looking_back::visit(tables, i, from, with, start, work) {
         Visited::Passed(k, set, slot) => {
             storing::store_passed(i, slot, set, work);
             Labelled::Passed(k)
@@ -53,22 +48,18 @@ fn label_back(
 }
 
 // The marks are the visit's own.
-fn label_marked(
-    sizes: &[u8],
-    pairs: &[u8],
-    rows: &[u64],
+pub fn label_marked(
+    tables: &FineTables,
     i: usize,
     from: u64,
     start: Counts,
     work: &mut [u64],
 ) -> Labelled
-    ghost t: { Tables }
-    requires rows_value { tables sizes.now pairs.now rows.now ≡ t }
-    requires standing { Standing t work.old i start }
-    requires kept { Kept Marking t work.old i }
-    ensures { Labels Marking t work.old i from start work.new result }
+    requires standing { Standing tables.now work.old i start }
+    requires kept { Kept Marking tables.now work.old i }
+    ensures { Labels Marking tables.now work.old i from start work.new result }
 {
-    match marking::visit(sizes, pairs, rows, i, from, start, work) {
+    match marking::visit(tables, i, from, start, work) {
         Visited::Passed(k, _, slot) => {
             work[i] = slot;
             Labelled::Passed(k)
@@ -80,27 +71,23 @@ fn label_marked(
 }
 
 // The live words are the visit's own; whom they blame is written once a slot has passed.
-fn label_ahead(
+pub fn label_ahead(
     backward: Backward,
-    sizes: &[u8],
-    pairs: &[u8],
-    rows: &[u64],
+    tables: &FineTables,
     i: usize,
     from: u64,
     start: Counts,
     work: &mut [u64],
 ) -> Labelled
-    ghost t: { Tables }
-    requires rows_value { tables sizes.now pairs.now rows.now ≡ t }
-    requires standing { Standing t work.old i start }
-    requires kept { Kept (LookingAhead backward) t work.old i }
-    ensures { Labels (LookingAhead backward) t work.old i from start work.new result }
+    requires standing { Standing tables.now work.old i start }
+    requires kept { Kept (LookingAhead backward) tables.now work.old i }
+    ensures { Labels (LookingAhead backward) tables.now work.old i from start work.new result }
 {
     let with = storing::begun_set(backward, i, work);
-    match looking_ahead::visit(backward, sizes, pairs, rows, i, from, with, start, work) {
+    match looking_ahead::visit(backward, tables, i, from, with, start, work) {
         Visited::Passed(k, set, slot) => {
             storing::store_passed(i, slot, set, work);
-            live_words::blame(backward, sizes, pairs, rows, i, work);
+            live_words::blame(backward, tables, i, work);
             Labelled::Passed(k)
         }
         Visited::Spent(k, set) => {
@@ -109,28 +96,5 @@ fn label_ahead(
         }
         Visited::OutOfChecks(k, set, slot, made) => Labelled::OutOfChecks(k, set, slot, made),
         Visited::OutOfTrials(k, set, slot) => Labelled::OutOfTrials(k, set, slot),
-    }
-}
-
-pub fn label(
-    moves: Moves,
-    sizes: &[u8],
-    pairs: &[u8],
-    rows: &[u64],
-    i: usize,
-    from: u64,
-    start: Counts,
-    work: &mut [u64],
-) -> Labelled
-    ghost t: { Tables }
-    requires rows_value { tables sizes.now pairs.now rows.now ≡ t }
-    requires standing { Standing t work.old i start }
-    requires kept { Kept moves t work.old i }
-    ensures { Labels moves t work.old i from start work.new result }
-{
-    match moves {
-        Moves::LookingBack(b) => label_back(b, sizes, pairs, rows, i, from, start, work),
-        Moves::Marking => label_marked(sizes, pairs, rows, i, from, start, work),
-        Moves::LookingAhead(b) => label_ahead(b, sizes, pairs, rows, i, from, start, work),
     }
 }

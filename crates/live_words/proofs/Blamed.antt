@@ -30,8 +30,15 @@ pub record BlamedTo (t : Tables) (i : ℕ) (w₀ w : List ℕ) (e k : ℕ) : Typ
   pub few : e ≤ 2016
   pub from : first_pair t.pairs i ≤ k
   pub up_to : k ≤ e
+  pub before : (q : ℕ) → first_pair t.pairs i ≤ q → q < e → word w (prev_at q) < live_at (first_pair t.pairs i)
   pub done : (q : ℕ) → first_pair t.pairs i ≤ q → q < k → LostAt t w₀ (suc i) (higher t.pairs q) (word w (blame_at (live_at q)))
   pub only : ChangedOnly (blame_at (live_at (first_pair t.pairs i))) used w₀ w
+
+-- the word before that of one of boat i's pairs stands below those of boat i
+prev_below : {t : Tables} {i : ℕ} {w : List ℕ} → Blaming t w i → (q : ℕ) → first_pair t.pairs i ≤ q → q < first_pair t.pairs (suc i) →
+    word w (prev_at q) < live_at (first_pair t.pairs i)
+prev_below {t} {i} g q lo hi =
+    omega (arith, prev_own t g.sane g.chained i q lo hi, left_before t g.sane i i (higher t.pairs q) (le_refl i) (g.sane.boats_named q (pair_listed t.pairs g.sane.rising i q lo hi)))
 
 pub blamed_none : {t : Tables} {i : ℕ} {w : List ℕ} → Blaming t w i → BlamedTo t i w w (word w (end_at i)) (word w (start_at i))
 blamed_none {t} {i} {w} g =
@@ -42,6 +49,7 @@ blamed_none {t} {i} {w} g =
       few = omega (arith, first_le t.pairs (suc i), g.sane.few_pairs);
       from = omega arith;
       up_to = omega (arith, first_next t.pairs i);
+      before = λ q lo hi. prev_below g q lo (omega arith);
       done = λ q lo hi. absurd (omega arith);
       only = only_refl _ _ w;
     }
@@ -65,16 +73,13 @@ module _ {t : Tables} {i : ℕ} {w₀ w : List ℕ} {e k : ℕ} (g : Blaming t w
     before_is : word w (prev_at k) ≡ left_at t.pairs i j
     before_is = still (prev_at k) (omega (arith, f.few)) ∙ prev_own t g.sane g.chained i k f.from inside
 
-    pub before_small : word w (prev_at k) < live_at (first_pair t.pairs i)
-    before_small = omega (arith, before_is, left_before t g.sane i i j (le_refl i) named)
-
     was : LostAt t w₀ i j (word w (blame_at (word w (prev_at k))))
     was =
-        subst (λ (v : ℕ). LostAt t w₀ i j v) (sym (still _ (omega (arith, before_small)) ∙ ap (λ (n : ℕ). word w₀ (blame_at n)) before_is))
+        subst (λ (v : ℕ). LostAt t w₀ i j v) (sym (still _ (omega (arith, f.before k f.from l)) ∙ ap (λ (n : ℕ). word w₀ (blame_at n)) before_is))
         (b i j (le_refl i) named)
 
     found : word w (word w (prev_at k)) ≡ left_word t w₀ i j
-    found = still _ (omega (arith, before_small)) ∙ ap (word w₀) before_is
+    found = still _ (omega (arith, f.before k f.from l)) ∙ ap (word w₀) before_is
 
     leaves : word w (live_at k) ≡ left_word t w₀ (suc i) j
     leaves = still (live_at k) (omega (arith, f.few)) ∙ ap (word w₀) (sym (left_own t g.sane i k f.from inside))
@@ -86,6 +91,7 @@ module _ {t : Tables} {i : ℕ} {w₀ w : List ℕ} {e k : ℕ} (g : Blaming t w
           few = f.few;
           from = omega (arith, f.from);
           up_to = omega arith;
+          before = λ q lo hi. rw (get_or-set_other w (blame_at (live_at k)) (prev_at q) v 0 (omega (arith, f.few))) (f.before q lo hi);
           done = λ q lo hi. by q lo hi (ℕ_discrete q k);
           only = only_trans f.only (only_set w (blame_at (live_at k)) v (omega (arith, f.from)) (omega (arith, f.few)));
         }

@@ -1,17 +1,17 @@
 -- The live words: what changes and stays, and whom a boat's losses blame.
 use mathlib.Core.Path.{◌≡◌, refl, sym, ap, ◌∙◌}
-use mathlib.Core.Bool.{Bool, true, false, not, ◌&&◌, and-true, and-false}
+use mathlib.Core.Bool.{Bool, true, false, not, ◌&&◌, and-true}
 use mathlib.Core.List.{List, [], ◌∷◌, ◌++◌}
 use mathlib.Core.Logic.{◌⊎◌, inl, inr}
 use mathlib.Mathlib.Data.Bool.Basic.{eq-false_of_not-eq-true}
 use Prim.Native.Nat.{ℕ, suc, ◌^◌, ◌≤◌, ◌<◌}
 use native.Mathlib.Omega.{arith}
-use native.Mathlib.Decide.{dec_lt}
 use native.Mathlib.Nat.{le_refl, eq-or-lt_of_le}
 use lib.Dec.{T, ltb, eqb}
 use lib.ListN.{length, take, length-append}
 use lib.Seq.{take_all, take-append-le}
-use borrow.Author.Tests.{eq-eqb, ne_eqb, lt-ltb, le-ltb}
+use Rattle.std.proofs.lemmas.Bool.Decides.{nat_tests}
+use borrow.Author.Tests.{eq-eqb, ne_eqb, lt-ltb}
 use Rattle.problem.specs.Tables.{Tables, boats, size, is_listed, bit}
 use Rattle.problem.specs.Sane.{Sane}
 use Rattle.problem.proofs.Lowest.{not_both}
@@ -44,11 +44,6 @@ module _ (n x y : ℕ) (f m : ℕ → Bool) (small : n ≤ 64) (lx : x < 2 ^ 64)
   lost_case true true h = absurd h
   lost_case false v h = absurd h
 
-  kept_case : (u v l : Bool) → (u && not v) ≡ false → (u && l) ≡ ((u && v) && l)
-  kept_case true true l e = refl
-  kept_case true false l e = let z : ◌≡◌ {A = ℕ} 0 1 = cc in absurd (omega arith)
-  kept_case false v l e = refl
-
   some_differ : some? n (λ b. f b && not (m b)) ≡ not (eqb x y)
   some_differ = by (some? n (λ b. f b && not (m b))) refl
     where
@@ -61,11 +56,10 @@ module _ (n x y : ℕ) (f m : ℕ → Bool) (small : n ≤ 64) (lx : x < 2 ^ 64)
           let by' : bit y w.0 ≡ false = iny w.0 (omega arith) ∙ rw (z.0, z.1) in
           let differ : x ≡ y → ⊥ = λ same. not_both bx (ap (λ (v : ℕ). bit v w.0) same ∙ by') in
           sym (ap not (ne_eqb x y differ))
-      by false e = sym (ap not (eq-eqb x y (bits_same 64 x y lx ly (λ b lb. inx b lb ∙ kept b (dec_lt b n) ∙ sym (iny b lb)))))
+      by false e = sym (ap not (eq-eqb x y (bits_same 64 x y lx ly (λ b lb. inx b lb ∙ kept b ∙ sym (iny b lb)))))
         where
-          kept : (b : ℕ) → Dec (b < n) → (f b && ltb b n) ≡ ((f b && m b) && ltb b n)
-          kept b (yes l) = kept_case (f b) (m b) (ltb b n) (some?_none n (λ b. f b && not (m b)) e b l)
-          kept b (no l) = rw (le-ltb b n (omega arith), and-false (f b), and-false (f b && m b))
+          kept : (b : ℕ) → (f b && ltb b n) ≡ ((f b && m b) && ltb b n)
+          kept b = grind (arith, nat_tests, some?_none n (λ b. f b && not (m b)) e b)
 
 -- ---- the words before those of boat i's own pairs are as they were
 module _ (t : Tables) (w w' : List ℕ) (sane : Sane t) where
@@ -136,11 +130,7 @@ module _ (t : Tables) (w p : List ℕ) (i j : ℕ) (e : length p ≡ i) (lj : i 
   blamed_not g lg = eq-false_of_not-eq-true (λ f. omega (arith, blamers_below t p j g (to_true _ f)))
 
   pub lost_blamers : (r : ℕ) → LostAt t w i j r → (g : ℕ) → bit r g ≡ blamers_of t p j g
-  lost_blamers r m g = m.members g ∙ by (dec_lt g i)
-    where
-      by : Dec (g < i) → (ltb g i && not (eqb (left_word t w g j) (left_word t w (suc g) j))) ≡ blamers_of t p j g
-      by (yes h) = rw (lt-ltb g i h) (sym (blamed_at g h))
-      by (no h) = rw (le-ltb g i (omega arith)) (sym (blamed_not g (omega arith)))
+  lost_blamers r m g = m.members g ∙ grind (arith, nat_tests, blamed_at g, blamed_not g)
 
   pub blame_blamers : Blames t w i → (g : ℕ) → bit (word w (blame_at (left_at t.pairs i j))) g ≡ blamers_of t p j g
   blame_blamers b = lost_blamers _ (b i j (le_refl i) jn)

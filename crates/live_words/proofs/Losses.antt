@@ -1,13 +1,14 @@
 -- The boats at whose trials a boat lost a slot: one boat more, and words that are as they were.
 use mathlib.Core.Path.{◌≡◌, sym, ap, ◌∙◌}
-use mathlib.Core.Bool.{Bool, true, false, not, ◌&&◌, ◌||◌, or-false}
+use mathlib.Core.Bool.{Bool, true, false, not, ◌&&◌, ◌||◌}
 use mathlib.Core.List.{List}
 use Prim.Native.Nat.{ℕ, suc, ◌≤◌, ◌<◌}
 use native.Mathlib.Omega.{arith}
-use native.Mathlib.Decide.{dec_lt, ℕ_discrete}
+use native.Mathlib.Decide.{dec_lt}
 use lib.Dec.{ltb, eqb}
 use lib.Pow.{pow_mono}
-use borrow.Author.Tests.{eq-eqb, ne_eqb, lt-ltb, le-ltb}
+use Rattle.std.proofs.lemmas.Bool.Decides.{nat_tests}
+use borrow.Author.Tests.{eq-eqb, ne_eqb, le-ltb}
 use Rattle.problem.specs.Tables.{Tables}
 use Rattle.words.specs.Sets.{WithMember}
 use Rattle.words.proofs.Bits.{bit_zero}
@@ -16,20 +17,10 @@ use Rattle.live_words.specs.Lives.{left_word, LostAt}
 -- a test of the boats below g, and of g
 module _ (g h : ℕ) (d : Bool) where
   grown : (h ≡ g → d ≡ true) → ((ltb h g && d) || eqb h g) ≡ (ltb h (suc g) && d)
-  grown e = by (dec_lt h g) (ℕ_discrete h g)
-    where
-      by : Dec (h < g) → Dec (h ≡ g) → ((ltb h g && d) || eqb h g) ≡ (ltb h (suc g) && d)
-      by (yes l) s = rw (lt-ltb h g l, ne_eqb h g (omega arith), lt-ltb h (suc g) (omega arith)) (or-false d)
-      by (no l) (yes s) = rw (le-ltb h g (omega arith), eq-eqb h g s, lt-ltb h (suc g) (omega arith)) (sym (e s))
-      by (no l) (no s) = rw (le-ltb h g (omega arith), ne_eqb h g s, le-ltb h (suc g) (omega arith))
+  grown e = grind (arith, nat_tests)
 
   kept : (h ≡ g → d ≡ false) → (ltb h g && d) ≡ (ltb h (suc g) && d)
-  kept e = by (dec_lt h g) (ℕ_discrete h g)
-    where
-      by : Dec (h < g) → Dec (h ≡ g) → (ltb h g && d) ≡ (ltb h (suc g) && d)
-      by (yes l) s = rw (lt-ltb h g l, lt-ltb h (suc g) (omega arith))
-      by (no l) (yes s) = rw (le-ltb h g (omega arith), lt-ltb h (suc g) (omega arith)) (sym (e s))
-      by (no l) (no s) = rw (le-ltb h g (omega arith), le-ltb h (suc g) (omega arith))
+  kept e = grind (arith, nat_tests)
 
 module _ (t : Tables) (w : List ℕ) (j : ℕ) where
   -- boat g struck a slot of boat j

@@ -2,8 +2,6 @@
 #![tactic(auto)]
 
 ghost use Rattle.std.specs.Prelude.{◌≡◌, [], ◌-◌, ◌^◌, ◌≤◌, length};
-ghost use Rattle.problem.specs.Tables.{Tables, tables};
-ghost use Rattle.problem.specs.Sane.{Sane};
 ghost use Rattle.words.specs.Places.{alls, lives, used};
 ghost use Rattle.words.specs.Layout.{ChangedOnly};
 ghost use Rattle.live_words.specs.Lives.{Lives};
@@ -13,6 +11,7 @@ mod slots;
 
 pub use blaming::blame;
 pub use slots::next_live;
+use tables::FineTables;
 use words::Words;
 
 // The slots of a boat, all live.
@@ -21,24 +20,19 @@ fn all_slots(size: usize) -> u64
     ensures { result ≡ 2 ^ size - 1 }
 {
     if size == 64 {
-        18446744073709551615
+        u64::MAX
     } else {
         (1u64 << size) - 1
     }
 }
 
 // All slots of all boats: before the first trial all are live.
-pub fn fill_slots(sizes: &[u8], pairs: &[u8], rows: &[u64], work: &mut [u64])
-    ghost t: { Tables }
-    requires rows_value { tables sizes.now pairs.now rows.now ≡ t }
-    requires sane { Sane t }
-    requires used_in_bounds { used ≤ length work.old }
-    ensures lives { Lives t work.new [] 0 }
+pub fn fill_slots(tables: &FineTables, work: &mut [u64])
+    requires { used ≤ length work.old }
+    ensures lives { Lives tables.now work.new [] 0 }
     ensures changed_only { ChangedOnly alls lives work.old work.new }
 {
-    let mut j: usize = 0;
-    while j < sizes.len() {
-        work[Words::ALLS + j] = all_slots(looks::size_of(sizes, j));
-        j += 1;
+    for j in 0..tables.boats() {
+        work[Words::ALLS + j] = all_slots(tables.size(j));
     }
 }

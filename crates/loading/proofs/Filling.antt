@@ -1,109 +1,75 @@
 -- The second pass: words read from the file, and parts of lent memory written one after another.
-use mathlib.Core.Path.{◌≡◌, sym, ap, ap₂, ◌∙◌}
+use mir.Syntax.{w64}
+use mathlib.Core.Path.{◌≡◌, refl, sym, ap, ap₂, ◌∙◌}
 use mathlib.Core.List.{List, [], ◌∷◌, ◌++◌, append_assoc, append-nil}
-use Prim.Native.Nat.{ℕ, suc, ◌+◌, ◌*◌, ◌≤◌, ◌<◌}
-use native.Mathlib.Nat.{add-suc, add-zero, add_assoc}
+use Prim.Native.Nat.{ℕ, zero, suc, ◌+◌, ◌*◌, ◌^◌, ◌≤◌, ◌<◌}
 use native.Mathlib.Numerals.{add-one}
 use native.Mathlib.Omega.{arith}
-use lib.ListN.{length, get_or, take, drop, set, length-append, length-drop, take-append-drop}
-use lib.Seq.{drop-cons, drop-drop, get_or-drop, length-take-le, set_at, take-add, take-suc}
+use borrow.Rule.Slice.PartMut.{put_mid}
+use lib.ListN.{length, get_or, take, drop, set, length-drop, drop_of_length-le}
+use lib.Seq.{drop-drop, length-take-le, take_all, take_at, drop_at, set_at, take-suc}
+use Rattle.std.specs.Int.{byte_worth, sum_through, from_le_bytes}
+use Rattle.std.specs.List.{slice_index}
+use Rattle.std.specs.Simd.{first_chunks}
 use Rattle.files.specs.Bytes.{number, words_of}
-use Rattle.files.proofs.Bytes.{words_length, words_last}
 
--- the number of some bytes, by the first of them
-next_number : (file : List ℕ) (at i k : ℕ) → at + i < length file
-    → number (take (suc k) (drop (at + i) file)) ≡ get_or file (at + i) 0 + 256 * number (take k (drop (at + suc i) file))
-unfolding number
-next_number file at i k l =
-    ap (λ bytes. number (take (suc k) bytes)) (drop-cons file (at + i) 0 l)
-    ∙ ap (λ j. get_or file (at + i) 0 + 256 * number (take k (drop j file))) (sym (add-suc at i))
+-- ---- eight bytes as a word
+times_through : (x y : ℕ) → x * (256 * y) ≡ 256 * (x * y)
+times_through x y = grind arith
 
-pub word_number : (file : List ℕ) (at : ℕ) → at + 8 ≤ length file
-    → get_or file at 0 + 0x100 * get_or file (at + 1) 0 + 0x10000 * (get_or file (at + 2) 0 + 0x100 * get_or file (at + 3) 0)
-    + 0x100000000 * (get_or file (at + 4) 0 + 0x100 * get_or file (at + 5) 0 + 0x10000 * (get_or file (at + 6) 0 + 0x100 * get_or file (at + 7) 0))
-    ≡ number (take 8 (drop at file))
+-- the weights of bytes behind a first one
+weights_behind : (k b : ℕ) (bytes : List ℕ)
+    → sum_through (λ i. byte_worth i (slice_index (b ∷ bytes) i)) (suc k) ≡ b + 256 * sum_through (λ i. byte_worth i (slice_index bytes i)) k
+weights_behind zero b bytes = omega arith
+weights_behind (suc k) b bytes =
+    let x : ℕ = slice_index bytes (suc k) in
+    let power : 256 ^ suc (suc k) ≡ 256 * 256 ^ suc k = omega arith in
+    let last : x * 256 ^ suc (suc k) ≡ 256 * (x * 256 ^ suc k) = ap (λ p. x * p) power ∙ times_through x (256 ^ suc k) in
+    ap (λ n. n + x * 256 ^ suc (suc k)) (weights_behind k b bytes) ∙ omega (arith, last)
+
+by_weights : (k : ℕ) (bytes : List ℕ) → length bytes ≡ suc k → sum_through (λ i. byte_worth i (slice_index bytes i)) k ≡ number bytes
 unfolding number
-word_number file at l =
-    let same : at ≡ at + 0 = omega arith in
-    let begins : number (take 8 (drop at file)) ≡ number (take 8 (drop (at + 0) file)) = ap (λ j. number (take 8 (drop j file))) same in
-    let first : get_or file at 0 ≡ get_or file (at + 0) 0 = ap (λ j. get_or file j 0) same in
-    omega (
-      arith,
-      next_number file at 0 7 (omega arith),
-      next_number file at 1 6 (omega arith),
-      next_number file at 2 5 (omega arith),
-      next_number file at 3 4 (omega arith),
-      next_number file at 4 3 (omega arith),
-      next_number file at 5 2 (omega arith),
-      next_number file at 6 1 (omega arith),
-      next_number file at 7 0 (omega arith),
-    )
+by_weights k [] e = absurd (omega arith)
+by_weights zero (b ∷ []) e = omega arith
+by_weights zero (b ∷ c ∷ bytes) e = absurd (omega arith)
+by_weights (suc k) (b ∷ bytes) e = weights_behind k b bytes ∙ ap (λ n. b + 256 * n) (by_weights k bytes (omega arith))
+
+-- the words of a PR, each as the code reads it
+pub word_read : (m k : ℕ) (bytes : List ℕ) → length bytes ≡ 8 * m → k < m → from_le_bytes w64 (get_or (first_chunks 8 m bytes) k []) ≡ get_or (words_of m bytes) k 0
+unfolding words_of
+word_read zero k bytes e l = absurd (omega arith)
+word_read (suc m) zero bytes e l = by_weights 7 (take 8 bytes) (length-take-le 8 bytes (omega arith))
+word_read (suc m) (suc k) bytes e l = word_read m k (drop 8 bytes) (omega (arith, length-drop 8 bytes)) (omega arith)
 
 -- ---- one more entry behind what is written
 pub written_more : (front rest : List ℕ) (at w : ℕ) → length front ≡ at → 0 < length rest → set (front ++ rest) at w ≡ (front ++ (w ∷ [])) ++ drop 1 rest
 written_more front [] at w e l = absurd (omega arith)
 written_more front (x ∷ rest) at w e l = set_at front x rest w at e ∙ sym (append_assoc front (w ∷ []) rest)
 
--- one more word
-pub words_more : (file : List ℕ) (at k : ℕ) → at + 8 * k + 8 ≤ length file
-    → words_of k (take (8 * k) (drop at file)) ++ (number (take 8 (drop (at + 8 * k) file)) ∷ []) ≡ words_of (suc k) (take (8 * suc k) (drop at file))
-words_more file at k l =
-    let more : 8 * suc k ≡ 8 * k + 8 = omega arith in
-    sym
-    (ap (λ n. words_of (suc k) (take n (drop at file))) more
-    ∙ ap (words_of (suc k)) (take-add (8 * k) 8 (drop at file) ∙ ap (λ bytes. take (8 * k) (drop at file) ++ take 8 bytes) (drop-drop (8 * k) at file))
-    ∙ words_last k (take (8 * k) (drop at file)) (take 8 (drop (at + 8 * k) file))
-    (length-take-le (8 * k) (drop at file) (omega (arith, length-drop at file)))
-    (length-take-le 8 (drop (at + 8 * k) file) (omega (arith, length-drop (at + 8 * k) file))))
+-- a part of a list comes after what is written, in place of as many entries
+pub put_next : (front list₀ list content : List ℕ) (at n : ℕ) → list ≡ front ++ drop at list₀ → length front ≡ at
+    → put_mid at n list content ≡ (front ++ content) ++ drop (at + n) list₀
+put_next front list₀ list content at n e l =
+    ap (λ xs. put_mid at n xs content) e
+    ∙ ap₂ (λ a b. a ++ (content ++ b)) (take_at front (drop at list₀) at l)
+    (ap (drop n) (drop_at front (drop at list₀) at l) ∙ drop-drop n at list₀)
+    ∙ sym (append_assoc front content (drop (at + n) list₀))
 
--- ---- k words of a PR are written behind the first rows
-pub rows_with : (file : List ℕ) (at : ℕ) (rows₀ : List ℕ) (first k : ℕ) → List ℕ
-rows_with file at rows₀ first k = (take first rows₀ ++ words_of k (take (8 * k) (drop at file))) ++ drop (first + k) rows₀
+-- ---- the first k of some entries stand in the rows
+pub record FirstOf (entries rows₀ : List ℕ) (k : ℕ) (rows : List ℕ) : Type 0 where
+  pub are : rows ≡ take k entries ++ drop k rows₀
 
-module _ (file : List ℕ) (at : ℕ) (rows₀ : List ℕ) (first : ℕ) where
-  pub rows_begin : rows₀ ≡ rows_with file at rows₀ first 0
-  unfolding rows_with words_of
-  rows_begin =
-      sym (ap₂ ◌++◌ (append-nil (take first rows₀)) (ap (λ n. drop n rows₀) (add-zero first)) ∙ take-append-drop first rows₀)
+pub entries_begin : (entries rows₀ : List ℕ) → FirstOf entries rows₀ 0 rows₀
+entries_begin entries rows₀ = record { are = refl }
 
-  pub rows_more : (k : ℕ) → at + 8 * k + 8 ≤ length file → first + k < length rows₀
-      → set (rows_with file at rows₀ first k) (first + k) (number (take 8 (drop (at + 8 * k) file))) ≡ rows_with file at rows₀ first (k + 1)
-  unfolding rows_with
-  rows_more k l m =
-      let front : length (take first rows₀ ++ words_of k (take (8 * k) (drop at file))) ≡ first + k =
-      length-append (take first rows₀) (words_of k (take (8 * k) (drop at file)))
-      ∙ ap₂ ◌+◌ (length-take-le first rows₀ (omega arith)) (words_length k (take (8 * k) (drop at file))) in
-      written_more (take first rows₀ ++ words_of k (take (8 * k) (drop at file))) (drop (first + k) rows₀) (first + k) (number (take 8 (drop (at + 8 * k) file)))
-      front (omega (arith, length-drop (first + k) rows₀))
-      ∙ ap₂ ◌++◌
-      (append_assoc (take first rows₀) (words_of k (take (8 * k) (drop at file))) (number (take 8 (drop (at + 8 * k) file)) ∷ [])
-      ∙ ap (λ ws. take first rows₀ ++ ws) (words_more file at k l ∙ ap (λ n. words_of n (take (8 * n) (drop at file))) (sym (add-one k))))
-      (drop-drop 1 (first + k) rows₀ ∙ ap (λ n. drop n rows₀) (add_assoc first k 1))
+pub entries_more : (entries rows₀ : List ℕ) (k : ℕ) (rows : List ℕ) (w : ℕ) → FirstOf entries rows₀ k rows → k < length entries → k < length rows₀
+    → w ≡ get_or entries k 0 → FirstOf entries rows₀ (k + 1) (set rows k w)
+entries_more entries rows₀ k rows w f l m e = record {
+  are =
+      ap₂ (λ rows w. set rows k w) f.are e
+      ∙ written_more (take k entries) (drop k rows₀) k (get_or entries k 0) (length-take-le k entries (omega arith)) (omega (arith, length-drop k rows₀))
+      ∙ ap₂ ◌++◌ (sym (take-suc entries k 0 l) ∙ ap (λ n. take n entries) (sym (add-one k))) (drop-drop 1 k rows₀);
+}
 
-  pub rows_done : (k : ℕ) → rows_with file at rows₀ first k ≡ take first rows₀ ++ (words_of k (take (8 * k) (drop at file)) ++ drop (first + k) rows₀)
-  unfolding rows_with
-  rows_done k = append_assoc (take first rows₀) (words_of k (take (8 * k) (drop at file))) (drop (first + k) rows₀)
-
-  pub rows_length : (k : ℕ) → first + k ≤ length rows₀ → length (rows_with file at rows₀ first k) ≡ length rows₀
-  rows_length k l =
-      ap length (rows_done k)
-      ∙ length-append (take first rows₀) (words_of k (take (8 * k) (drop at file)) ++ drop (first + k) rows₀)
-      ∙ omega (
-        arith,
-        length-take-le first rows₀ (omega arith),
-        length-append (words_of k (take (8 * k) (drop at file))) (drop (first + k) rows₀),
-        words_length k (take (8 * k) (drop at file)),
-        length-drop (first + k) rows₀,
-      )
-
--- ---- one more size
-pub sizes_more : (file sizes₀ : List ℕ) (i : ℕ) → 3 + i < length file → i < length sizes₀
-    → set (take i (drop 3 file) ++ drop i sizes₀) i (get_or file (3 + i) 0) ≡ take (i + 1) (drop 3 file) ++ drop (i + 1) sizes₀
-sizes_more file sizes₀ i l m =
-    written_more (take i (drop 3 file)) (drop i sizes₀) i (get_or file (3 + i) 0)
-    (length-take-le i (drop 3 file) (omega (arith, length-drop 3 file))) (omega (arith, length-drop i sizes₀))
-    ∙ ap₂ ◌++◌
-    (ap (λ b. take i (drop 3 file) ++ (b ∷ [])) (sym (get_or-drop 3 file i 0))
-    ∙ sym (take-suc (drop 3 file) i 0 (omega (arith, length-drop 3 file)))
-    ∙ ap (λ n. take n (drop 3 file)) (sym (add-one i)))
-    (drop-drop 1 i sizes₀)
+pub entries_done : (entries rows₀ : List ℕ) (k : ℕ) (rows : List ℕ) → FirstOf entries rows₀ k rows → length entries ≤ k → length rows₀ ≤ k → rows ≡ entries
+entries_done entries rows₀ k rows f l m = f.are ∙ ap₂ ◌++◌ (take_all k entries l) (drop_of_length-le rows₀ {i = k} m) ∙ append-nil entries

@@ -1,34 +1,32 @@
 -- The second pass, mark by mark: what is written so far is what was read so far.
 use mathlib.Core.Path.{◌≡◌, refl, sym, ap, ap₂, ◌∙◌}
 use mathlib.Core.Bool.{true, false}
-use mathlib.Core.List.{List, [], ◌∷◌, ◌++◌, append_assoc}
+use mathlib.Core.List.{List, [], ◌∷◌, ◌++◌}
 use Prim.Native.Nat.{ℕ, ◌+◌, ◌*◌, ◌≤◌, ◌<◌}
 use native.Mathlib.Omega.{arith}
-use lib.ListN.{length, get_or, take, drop, set, length-append, length-drop, length-set}
-use lib.Seq.{take_at, drop-append-add, drop-drop}
+use borrow.Rule.Slice.PartMut.{put_mid}
+use lib.ListN.{length, get_or, take, drop}
 use Rattle.problem.specs.Tables.{Tables}
 use Rattle.files.specs.Bytes.{words_of}
 use Rattle.files.specs.File.{PR}
 use Rattle.files.specs.Reading.{read, pairs_due, same, read_from}
 use Rattle.scanning.specs.Scanning.{GoesOn, from_sizes}
 use Rattle.loading.specs.Loading.{Fitting, Filled}
-use Rattle.files.proofs.Bytes.{words_length}
 use Rattle.scanning.proofs.Scanning.{AtMark, pass_begins}
-use Rattle.loading.proofs.Filling.{written_more}
+use Rattle.scanning.proofs.Meeting.{two_taken}
+use Rattle.loading.proofs.Filling.{put_next}
 use Rattle.loading.proofs.Sure.{sure_mark, sure_end, sure_lower, sure_there, sure_words, sure_on, sure_room}
 
 pub record AtPair (file : List ℕ) (boats : ℕ) (pairs₀ rows₀ : List ℕ) (at k word : ℕ) (pairs rows : List ℕ) : Type 0 where
   pub mark : AtMark file boats at k word
   pub pairs_are : pairs ≡ mark.tables.pairs ++ drop (2 * k) pairs₀
   pub rows_are : rows ≡ mark.tables.rows ++ drop word rows₀
-  pub pairs_long : length pairs ≡ length pairs₀
-  pub rows_long : length rows ≡ length rows₀
 
 pub second_begins : (file : List ℕ) (boats : ℕ) (pairs₀ rows₀ : List ℕ) → 3 + boats ≤ length file → AtPair file boats pairs₀ rows₀ (3 + boats) 0 0 pairs₀ rows₀
 unfolding pass_begins
-second_begins file boats pairs₀ rows₀ l = record { mark = pass_begins file boats l; pairs_are = refl; rows_are = refl; pairs_long = refl; rows_long = refl }
+second_begins file boats pairs₀ rows₀ l = record { mark = pass_begins file boats l; pairs_are = refl; rows_are = refl }
 
-module _ (file : List ℕ) (boats : ℕ) (pairs₀ rows₀ : List ℕ) (f : Fitting file boats (length pairs₀) (length rows₀)) (at k word : ℕ) (pairs rows : List ℕ)
+module _ {file : List ℕ} {boats : ℕ} {pairs₀ rows₀ : List ℕ} (f : Fitting file boats (length pairs₀) (length rows₀)) {at k word : ℕ} {pairs rows : List ℕ}
     (a : AtPair file boats pairs₀ rows₀ at k word pairs rows) where
   onward : read_from at pairs_due a.mark.tables (drop at file) ≡ read f.tables
   onward = sym a.mark.is ∙ f.is_read
@@ -69,30 +67,13 @@ module _ (file : List ℕ) (boats : ℕ) (pairs₀ rows₀ : List ℕ) (f : Fitt
         on : GoesOn file boats at k slots word a.mark.tables
         on = sure_on file at boats k word a.mark.inside a.mark.front a.mark.tables a.mark.so_far f.tables onward pr l is slots are
 
-        pair_set : (x y : ℕ) → set (set pairs (2 * k) x) (2 * k + 1) y ≡ (a.mark.tables.pairs ++ (x ∷ y ∷ [])) ++ drop (2 * (k + 1)) pairs₀
-        pair_set x y =
-            let s : List ℕ = a.mark.tables.pairs in
-            let next : 2 * k + 1 + 1 ≡ 2 * (k + 1) = omega arith in
-            ap (λ l. set (set l (2 * k) x) (2 * k + 1) y) a.pairs_are
-            ∙ ap (λ l. set l (2 * k + 1) y) (written_more s (drop (2 * k) pairs₀) (2 * k) x a.mark.so_far.pair_bytes (omega (arith, length-drop (2 * k) pairs₀, room.0)))
-            ∙ ap (λ l. set ((s ++ (x ∷ [])) ++ l) (2 * k + 1) y) (drop-drop 1 (2 * k) pairs₀)
-            ∙ written_more (s ++ (x ∷ [])) (drop (2 * k + 1) pairs₀) (2 * k + 1) y (omega (arith, length-append s (x ∷ []), a.mark.so_far.pair_bytes))
-            (omega (arith, length-drop (2 * k + 1) pairs₀, room.0))
-            ∙ ap₂ ◌++◌ (append_assoc s (x ∷ []) (y ∷ [])) (drop-drop 1 (2 * k + 1) pairs₀ ∙ ap (λ n. drop n pairs₀) next)
-
-        rows_set : (content : List ℕ) → take word rows ++ (content ++ drop (word + slots) rows) ≡ (a.mark.tables.rows ++ content) ++ drop (word + slots) rows₀
-        rows_set content =
-            let s : List ℕ = a.mark.tables.rows in
-            let front : take word rows ≡ s = ap (take word) a.rows_are ∙ take_at s (drop word rows₀) word a.mark.so_far.row_words in
-            let back : drop (word + slots) rows ≡ drop (word + slots) rows₀ =
-            ap₂ (λ n l. drop (n + slots) l) (sym a.mark.so_far.row_words) a.rows_are ∙ drop-append-add s (drop word rows₀) slots ∙ drop-drop slots word rows₀ in
-            ap₂ (λ b c. b ++ (content ++ c)) front back ∙ sym (append_assoc s content (drop (word + slots) rows₀))
-
-        pub second_steps : (rows' : List ℕ) → rows' ≡ take word rows ++ (words_of slots (take (8 * slots) (drop (at + 4) file)) ++ drop (word + slots) rows)
-            → AtPair file boats pairs₀ rows₀ (at + (4 + 8 * slots)) (k + 1) (word + slots) (set (set pairs (2 * k) (get_or file (at + 2) 0)) (2 * k + 1) (get_or file (at + 3) 0)) rows'
-        second_steps rows' e =
-            let content : List ℕ = words_of slots (take (8 * slots) (drop (at + 4) file)) in
-            let written : rows' ≡ (a.mark.tables.rows ++ content) ++ drop (word + slots) rows₀ = e ∙ rows_set content in
+        pub second_steps : (p r : List ℕ) → p ≡ take 2 (drop (at + 2) file) → r ≡ words_of slots (take (8 * slots) (drop (at + 4) file))
+            → AtPair file boats pairs₀ rows₀ (at + (4 + 8 * slots)) (k + 1) (word + slots) (put_mid (2 * k) 2 pairs p) (put_mid word slots rows r)
+        second_steps p r e q =
+            let higher : at + 2 + 1 ≡ at + 3 = omega arith in
+            let next : 2 * k + 2 ≡ 2 * (k + 1) = omega arith in
+            let two : p ≡ get_or file (at + 2) 0 ∷ get_or file (at + 3) 0 ∷ [] =
+            e ∙ two_taken file (at + 2) (omega (arith, words_there)) ∙ ap (λ i. get_or file (at + 2) 0 ∷ get_or file i 0 ∷ []) higher in
             record {
               mark = record {
                 inside = words_there;
@@ -102,18 +83,12 @@ module _ (file : List ℕ) (boats : ℕ) (pairs₀ rows₀ : List ℕ) (f : Fitt
                 so_far = on.so_far;
                 is = a.mark.is ∙ on.on;
               };
-              pairs_are = pair_set (get_or file (at + 2) 0) (get_or file (at + 3) 0) ∙ ap (λ l. l ++ drop (2 * (k + 1)) pairs₀) (sym on.pairs_are);
-              rows_are = written ∙ ap (λ l. l ++ drop (word + slots) rows₀) (sym on.rows_are);
-              pairs_long = length-set (set pairs (2 * k) (get_or file (at + 2) 0)) (2 * k + 1) (get_or file (at + 3) 0) ∙ length-set pairs (2 * k) (get_or file (at + 2) 0) ∙ a.pairs_long;
-              rows_long =
-                  ap length written
-                  ∙ omega (
-                    arith,
-                    length-append (a.mark.tables.rows ++ content) (drop (word + slots) rows₀),
-                    length-append a.mark.tables.rows content,
-                    words_length slots (take (8 * slots) (drop (at + 4) file)),
-                    a.mark.so_far.row_words,
-                    length-drop (word + slots) rows₀,
-                    room.1,
-                  );
+              pairs_are =
+                  put_next a.mark.tables.pairs pairs₀ pairs p (2 * k) 2 a.pairs_are a.mark.so_far.pair_bytes
+                  ∙ ap₂ (λ l n. (a.mark.tables.pairs ++ l) ++ drop n pairs₀) two next
+                  ∙ ap (λ l. l ++ drop (2 * (k + 1)) pairs₀) (sym on.pairs_are);
+              rows_are =
+                  put_next a.mark.tables.rows rows₀ rows r word slots a.rows_are a.mark.so_far.row_words
+                  ∙ ap (λ l. (a.mark.tables.rows ++ l) ++ drop (word + slots) rows₀) q
+                  ∙ ap (λ l. l ++ drop (word + slots) rows₀) (sym on.rows_are);
             }

@@ -5,8 +5,8 @@ use mathlib.Core.Bool.{Bool, true, false}
 use mathlib.Core.List.{List, [], ◌∷◌}
 use Prim.Native.Nat.{ℕ, zero, suc, ◌+◌, ◌*◌, ◌≤◌, ◌<◌}
 use native.Mathlib.Omega.{arith}
-use borrow.Author.Tests.{ltb-true, ltb-false, leb-true, leb-false}
-use lib.Dec.{ltb, leb}
+use borrow.Author.Tests.{ltb-true, ltb-false}
+use lib.Dec.{ltb}
 use lib.ListN.{length, get_or, take, drop, length-append, length-drop}
 use lib.Seq.{length-take-le}
 use Rattle.problem.specs.Tables.{Tables, size}
@@ -22,6 +22,14 @@ use Rattle.scanning.proofs.Meeting.{no_mark, no_lower, no_boat, no_words, pair_m
 
 not_refused : (r : Reading) (t : Tables) (number place : ℕ) → r ≡ read t → reading_told r ≡ refused number place → ⊥
 not_refused r t number place e q = omega (arith, ap (λ w. w.number) (sym (ap reading_told e) ∙ q))
+
+-- so a bound without which it is refused holds
+sure_le : (r : Reading) (t : Tables) (number place least most : ℕ) → r ≡ read t → (most < least → reading_told r ≡ refused number place) → least ≤ most
+sure_le r t number place least most e refuse = by (ltb most least) refl
+  where
+    by : (b : Bool) → ltb most least ≡ b → least ≤ most
+    by true q = absurd (not_refused r t number place e (refuse (ltb-true _ _ q)))
+    by false q = ltb-false _ _ q
 
 -- ---- what is read only grows
 abbrev Grows : Tables → Tables → Type 0
@@ -46,11 +54,7 @@ grows (suc most) at s bytes t l e = by (pairs_due_lem at s bytes t e) (grows mos
 module _ (file : List ℕ) (at n pairs words : ℕ) (inside : at ≤ length file) (front : 3 + n ≤ at) (s : Tables) (so : SoFar file n pairs words s) (t : Tables)
     (e : read_from at pairs_due s (drop at file) ≡ read t) where
   pub sure_mark : at + 2 ≤ length file
-  sure_mark = by (ltb (length file) (at + 2)) refl
-    where
-      by : (b : Bool) → ltb (length file) (at + 2) ≡ b → at + 2 ≤ length file
-      by true q = absurd (not_refused _ t 22 (length file) e (no_mark file at n inside front (ltb-true _ _ q) s))
-      by false q = ltb-false _ _ q
+  sure_mark = sure_le _ t 22 (length file) _ _ e (λ l. no_mark file at n inside front l s)
 
   -- where no PR comes, all is read
   pub sure_end : same (take 2 (drop at file)) PR ≡ false → s ≡ t
@@ -62,30 +66,15 @@ module _ (file : List ℕ) (at n pairs words : ℕ) (inside : at ≤ length file
 
   module _ (pr : same (take 2 (drop at file)) PR ≡ true) where
     pub sure_lower : at + 3 ≤ length file
-    sure_lower = by (ltb (length file) (at + 3)) refl
-      where
-        by : (b : Bool) → ltb (length file) (at + 3) ≡ b → at + 3 ≤ length file
-        by true q = absurd (not_refused _ t 22 (length file) e (no_lower file at n inside front sure_mark pr (ltb-true _ _ q) s))
-        by false q = ltb-false _ _ q
+    sure_lower = sure_le _ t 22 (length file) _ _ e (λ l. no_lower file at n inside front sure_mark pr l s)
 
     module _ (l : ℕ) (is : l ≡ get_or file (at + 2) 0) where
       pub sure_there : l < n
-      sure_there = by (leb n l) refl
-        where
-          by : (b : Bool) → leb n l ≡ b → l < n
-          by true q = absurd (not_refused _ t 23 (at + 2) e (no_boat file at n inside front sure_mark pr sure_lower pairs words s so l is (leb-true _ _ q)))
-          by false q = leb-false _ _ q
+      sure_there = sure_le _ t 23 (at + 2) (suc l) n e (λ m. no_boat file at n inside front sure_mark pr sure_lower pairs words s so l is (omega arith))
 
       module _ (slots : ℕ) (are : slots ≡ get_or file (3 + l) 0) where
         pub sure_words : at + (4 + 8 * slots) ≤ length file
-        sure_words = by (ltb (length file) (at + (4 + 8 * slots))) refl
-          where
-            by : (b : Bool) → ltb (length file) (at + (4 + 8 * slots)) ≡ b → at + (4 + 8 * slots) ≤ length file
-            by true q =
-                absurd
-                (not_refused _ t 22 (length file) e
-                (no_words file at n inside front sure_mark pr sure_lower pairs words s so l is sure_there slots are (ltb-true _ _ q)))
-            by false q = ltb-false _ _ q
+        sure_words = sure_le _ t 22 (length file) _ _ e (no_words file at n inside front sure_mark pr sure_lower pairs words s so l is sure_there slots are)
 
         pub sure_on : GoesOn file n at pairs slots words s
         sure_on = pair_met file at n inside front sure_mark pr sure_lower pairs words s so l is sure_there slots are sure_words
@@ -107,11 +96,7 @@ pub record Started (file : List ℕ) (t : Tables) : Type 0 where
 
 module _ (file : List ℕ) (t : Tables) (e : reading file ≡ read t) where
   two_there : 2 ≤ length file
-  two_there = by (ltb (length file) 2) refl
-    where
-      by : (b : Bool) → ltb (length file) 2 ≡ b → 2 ≤ length file
-      by true q = absurd (not_refused _ t 22 (length file) e (no_first_mark file (ltb-true _ _ q)))
-      by false q = ltb-false _ _ q
+  two_there = sure_le _ t 22 (length file) _ _ e (no_first_mark file)
 
   is_sizes : same (take 2 file) SZ ≡ true
   is_sizes = by (same (take 2 file) SZ) refl
@@ -121,18 +106,10 @@ module _ (file : List ℕ) (t : Tables) (e : reading file ≡ read t) where
       by false q = absurd (not_refused _ t 21 0 e (no_sizes_mark file two_there q))
 
   three_there : 3 ≤ length file
-  three_there = by (ltb (length file) 3) refl
-    where
-      by : (b : Bool) → ltb (length file) 3 ≡ b → 3 ≤ length file
-      by true q = absurd (not_refused _ t 22 (length file) e (no_number file two_there is_sizes (ltb-true _ _ q)))
-      by false q = ltb-false _ _ q
+  three_there = sure_le _ t 22 (length file) _ _ e (no_number file two_there is_sizes)
 
   sizes_there : 3 + get_or file 2 0 ≤ length file
-  sizes_there = by (ltb (length file) (3 + get_or file 2 0)) refl
-    where
-      by : (b : Bool) → ltb (length file) (3 + get_or file 2 0) ≡ b → 3 + get_or file 2 0 ≤ length file
-      by true q = absurd (not_refused _ t 22 (length file) e (no_sizes file two_there is_sizes three_there (get_or file 2 0) refl (ltb-true _ _ q)))
-      by false q = ltb-false _ _ q
+  sizes_there = sure_le _ t 22 (length file) _ _ e (no_sizes file two_there is_sizes three_there (get_or file 2 0) refl)
 
   pub started : Started file t
   started =

@@ -12,16 +12,15 @@ use lib.Dec.{ltb}
 use lib.ListN.{length, take, length-append}
 use lib.Seq.{length-take-le, take-take}
 use borrow.Author.Tests.{lt-ltb}
+use Rattle.std.specs.Prelude.{Some, None}
 use Rattle.problem.specs.Tables.{Tables, boats, size, listed, lower, higher, bit}
 use Rattle.problem.specs.Sane.{Sane}
 use Rattle.problem.specs.declared.Allowance.{Allowance}
 use Rattle.problem.specs.declared.Allowance.TheVariants.{Checks, Trials}
 use Rattle.events.specs.Events.{Event, trial}
 use Rattle.events.specs.declared.Counts.{Counts}
-use Rattle.events.specs.declared.Counted.{Counted}
-use Rattle.events.specs.declared.Counted.TheVariants.{Within, Out}
 use Rattle.events.specs.Counts.{trial_counted, Makes, StopsIn}
-use Rattle.events.proofs.Leading.{makes_none, makes_append, makes_trial, trial_stops, stops_behind, checks_made}
+use Rattle.events.proofs.Leading.{makes_none, makes_append, makes_trial, trial_stops, stops_behind}
 use Rattle.methods.specs.ByPlan.{is_open, blamers_of, ahead_by_plan}
 use Rattle.methods.proofs.Shown.{choices_size}
 use Rattle.words.specs.Places.{live_at, prev_at, blames, used, blame_at}
@@ -70,7 +69,7 @@ module _ {backward : Backward} {t : Tables} {w : List ℕ} {i : ℕ} (ready : Re
   pub is_live_word : word w (word w (448 + i)) ≡ left_word t w i i
   is_live_word = ap (word w) (ready.kept.chained.last i ready.boat)
 
-  pub short : i ≤ length w
+  short : i ≤ length w
   short = omega (arith, ready.sane.few_boats, ready.boat, ready.room)
 
   long : length (take i w) ≡ i
@@ -86,7 +85,7 @@ module _ {backward : Backward} {t : Tables} {w : List ℕ} {i : ℕ} (ready : Re
     pub kept_chained : Chained t v
     kept_chained = chained_stays t w v ready.sane (same_before o (omega arith)) ready.kept.chained
 
-    pub sweepable : (a : ℕ) → a < size t.sizes i → Sweepable t v i a
+    sweepable : (a : ℕ) → a < size t.sizes i → Sweepable t v i a
     sweepable a la =
         record {
           sane = ready.sane;
@@ -109,6 +108,13 @@ module _ (t : Tables) (w : List ℕ) (i : ℕ) (backward : Backward) (a₀ s₀ 
     pub here : a < size t.sizes i → last ≡ a
     pub none : size t.sizes i ≤ a → size t.sizes i ≤ last
     pub comes : Comes last s k
+
+  -- before slot a, with the set s and the counts k, the words being v
+  pub record Going (v : List ℕ) (a s : ℕ) (k : Counts) : Type 0 where
+    pub kept : Reached t w i v
+    pub below : s < 2 ^ i
+    pub due : DueAt a s k
+    pub live : a < 64 → bit (left_word t w i i) a ≡ true
 
 module _ {backward : Backward} {t : Tables} {w : List ℕ} {i : ℕ} (ready : Ready backward t w i) where
   -- a slot is live as its bit in the boat's last live word says
@@ -151,30 +157,57 @@ module _ {backward : Backward} {t : Tables} {w : List ℕ} {i : ℕ} (ready : Re
       by (no n) = record { last = size t.sizes i; here = λ y. absurd (omega arith); none = λ _. le_refl _; comes = to (size t.sizes i) la (le_refl _) (omega arith) }
 
   -- up to the next live slot
-  pub due_next : (a s v b : ℕ) {k : Counts} → v ≡ left_word t w i i → NextLive v a b → Comes t w i backward a₀ s₀ m a s k → DueAt t w i backward a₀ s₀ m b s k
-  due_next a s v b {k} e n c = by (dec_le a (size t.sizes i))
+  due_next : (a s b : ℕ) {k : Counts} → NextLive (left_word t w i i) a b → Comes t w i backward a₀ s₀ m a s k → DueAt t w i backward a₀ s₀ m b s k
+  due_next a s b {k} n c = by (dec_le a (size t.sizes i))
     where
       by : Dec (a ≤ size t.sizes i) → DueAt t w i backward a₀ s₀ m b s k
-      by (yes y) = dead_to a s b y n.onward (λ x lo hi. rw (← e) (n.dead x lo hi)) c
+      by (yes y) = dead_to a s b y n.onward n.dead c
       by (no y) = record { last = a; here = λ l. absurd (omega (arith, n.onward)); none = λ _. omega arith; comes = c }
+
+  pub on_to : (v : List ℕ) (a s b : ℕ) {k : Counts} → Reached t w i v → s < 2 ^ i → Comes t w i backward a₀ s₀ m a s k → NextLive (word w (word w (448 + i))) a b →
+      Going t w i backward a₀ s₀ m v b s k
+  on_to v a s b o l c n =
+      let n' : NextLive (left_word t w i i) a b = rw (is_live_word ready) at n in
+      record { kept = o; below = l; due = due_next a s b n' c; live = n'.alive }
 
   -- no slot is left
   pub none_due : (a s : ℕ) {k : Counts} → size t.sizes i ≤ a → DueAt t w i backward a₀ s₀ m a s k →
       Spends t (steps_over t (ahead_by_plan t) backward) (take i w) a₀ (state backward (set_words w i s₀)) m (state backward (set_words w i s)) k
   none_due a s l d = record { last = d.last; none = rw (long ready, choices_size t i) (d.none l); comes = d.comes }
 
-  -- ---- at a live slot a, with the set s and the counts k
-  module _ (a s : ℕ) {k : Counts} (la : a < size t.sizes i) (live : bit (left_word t w i i) a ≡ true) (c : Comes t w i backward a₀ s₀ m a s k) where
+-- ---- at a slot that is due, below the boat's slots: it is live
+pub record TriedAt (t : Tables) (w : List ℕ) (i : ℕ) (backward : Backward) (a₀ s₀ : ℕ) (m : Counts) (v : List ℕ) (a s : ℕ) (k : Counts) : Type 0 where
+  pub ready : Ready backward t w i
+  pub kept : Reached t w i v
+  pub slot : a < size t.sizes i
+  pub live : bit (left_word t w i i) a ≡ true
+  pub comes : Comes t w i backward a₀ s₀ m a s k
+
+module _ {t : Tables} {w : List ℕ} {i : ℕ} {backward : Backward} {a₀ s₀ : ℕ} {m : Counts} {v : List ℕ} {a s : ℕ} {k : Counts} where
+  pub tried : Ready backward t w i → a < size t.sizes i → Going t w i backward a₀ s₀ m v a s k → TriedAt t w i backward a₀ s₀ m v a s k
+  tried r la g =
+      record {
+        ready = r;
+        kept = g.kept;
+        slot = la;
+        live = g.live (omega (arith, r.sane.few_slots i r.boat));
+        comes = subst (λ (b : ℕ). Comes t w i backward a₀ s₀ m b s k) (g.due.here la) g.due.comes;
+      }
+
+  module _ (c : TriedAt t w i backward a₀ s₀ m v a s k) where
+    tells : (ahead_by_plan t).live tt (take i w) a ≡ true
+    tells = told c.ready a c.slot ∙ c.live
+
     -- the run ends inside the step
     stopped : {which : Allowance} {made : ℕ} {x : Counts} → StopsIn k (trial i a ∷ (sweep_of t (take i w) a).checks) which made x →
         RunsOut t (steps_over t (ahead_by_plan t) backward) (take i w) a₀ (state backward (set_words w i s₀)) m which a (state backward (set_words w i s)) made x
     stopped e =
-        let z = slot_tries t backward w i (short ready) ready.boat a s la (told ready a la ∙ live) in
+        let z = slot_tries t backward w i (short c.ready) c.ready.boat a s c.slot tells in
         record {
           reached = k;
-          comes = c;
+          comes = c.comes;
           stops = record {
-            inside = in_choices t (ahead_by_plan t) backward w i (short ready) ready.boat a s la;
+            inside = in_choices t (ahead_by_plan t) backward w i (short c.ready) c.ready.boat a s c.slot;
             events = trial i a ∷ (sweep_of t (take i w) a).checks;
             plan = z.0;
             choice = z.1;
@@ -184,71 +217,49 @@ module _ {backward : Backward} {t : Tables} {w : List ℕ} {i : ℕ} (ready : Re
           };
         }
 
-    pub no_trial : {r : Counted} → r ≡ trial_counted k → r ≡ Out →
+    pub no_trial : trial_counted k ≡ None →
         RunsOut t (steps_over t (ahead_by_plan t) backward) (take i w) a₀ (state backward (set_words w i s₀)) m Trials a (state backward (set_words w i s)) 0 k
-    no_trial e f = stopped (trial_stops k c.makes.fits i a _ (sym e ∙ f))
+    no_trial e = stopped (trial_stops k c.comes.makes.fits i a _ e)
 
-    pub trial_made : {r : Counted} {x : Counts} → r ≡ trial_counted k → r ≡ Within x → Makes k (trial i a ∷ []) x
-    trial_made {x = x} e f = makes_trial k x c.makes.fits i a (sym e ∙ f)
+    pub trial_made : {x : Counts} → trial_counted k ≡ Some x → Makes k (trial i a ∷ []) x
+    trial_made {x} e = makes_trial k x c.comes.makes.fits i a e
 
--- ---- at a slot that is due, below the boat's slots
-pub record TriedAt (t : Tables) (w : List ℕ) (i : ℕ) (backward : Backward) (a₀ s₀ : ℕ) (m : Counts) (a s : ℕ) (k : Counts) : Type 0 where
-  pub ready : Ready backward t w i
-  pub slot : a < size t.sizes i
-  pub live : bit (left_word t w i i) a ≡ true
-  pub comes : Comes t w i backward a₀ s₀ m a s k
-
-pub tried : {t : Tables} {w : List ℕ} {i : ℕ} {backward : Backward} {a₀ s₀ : ℕ} {m : Counts} {a s : ℕ} {k : Counts} →
-    Ready backward t w i → a < size t.sizes i → DueAt t w i backward a₀ s₀ m a s k → (a < 64 → bit (left_word t w i i) a ≡ true) →
-    TriedAt t w i backward a₀ s₀ m a s k
-tried {t} {w} {i} {backward} {a₀} {s₀} {m} {a} {s} {k} r la d live =
-    record {
-      ready = r;
-      slot = la;
-      live = live (omega (arith, r.sane.few_slots i r.boat));
-      comes = subst (λ (b : ℕ). Comes t w i backward a₀ s₀ m b s k) (d.here la) d.comes;
-    }
+    pub sweepable_lem : Sweepable t v i a
+    sweepable_lem = sweepable c.ready c.kept a c.slot
 
 -- ---- after the sweep of slot a, which went from the words v to the words v'
 pub record AfterSweep (t : Tables) (w : List ℕ) (i : ℕ) (backward : Backward) (a₀ s₀ : ℕ) (m : Counts) (a s : ℕ) (k n : Counts) (v v' : List ℕ) (r : Swept) : Type 0 where
-  pub ready : Ready backward t w i
-  pub slot : a < size t.sizes i
-  pub live : bit (left_word t w i i) a ≡ true
-  pub comes : Comes t w i backward a₀ s₀ m a s k
+  pub tried : TriedAt t w i backward a₀ s₀ m v a s k
   pub counted : Makes k (trial i a ∷ []) n
-  pub kept : Reached t w i v
   pub sweeps : SweepsTo t v (take i v) a n v' r
   pub only : ChangedOnly (live_at (first_pair t.pairs i)) blames v v'
 
 module _ {t : Tables} {w : List ℕ} {i : ℕ} {backward : Backward} {a₀ s₀ : ℕ} {m : Counts} {a s : ℕ} {k n : Counts} {v v' : List ℕ} {r : Swept}
     (c : AfterSweep t w i backward a₀ s₀ m a s k n v v' r) where
   pub kept_after : Reached t w i v'
-  kept_after = only_trans c.kept c.only
-
-  tells : (ahead_by_plan t).live tt (take i w) a ≡ true
-  tells = told c.ready a c.slot ∙ c.live
+  kept_after = only_trans c.tried.kept c.only
 
   swept : (r' : Swept) → r ≡ r' → SweepsTo t v (take i w) a n v' r'
-  swept r' e = subst (λ (q : List ℕ). SweepsTo t v q a n v' r') (kept_take c.ready c.kept) (subst (SweepsTo t v (take i v) a n v') e c.sweeps)
+  swept r' e = subst (λ (q : List ℕ). SweepsTo t v q a n v' r') (kept_take c.tried.ready c.tried.kept) (subst (SweepsTo t v (take i v) a n v') e c.sweeps)
 
   pub swept_clear : {x : Counts} → r ≡ Clear x →
       Passes t (steps_over t (ahead_by_plan t) backward) (take i w) a₀ (state backward (set_words w i s₀)) m a (state backward (set_words w i s)) x
   swept_clear {x} e =
       let z = swept (Clear x) e in
       record {
-        inside = in_choices t (ahead_by_plan t) backward w i (short c.ready) c.ready.boat a s c.slot;
+        inside = in_choices t (ahead_by_plan t) backward w i (short c.tried.ready) c.tried.ready.boat a s c.tried.slot;
         remembered = state backward (set_words w i s);
         reached = k;
-        comes = c.comes;
+        comes = c.tried.comes;
         events = trial i a ∷ (sweep_of t (take i w) a).checks;
-        steps = slot_passes t backward w i (short c.ready) c.ready.boat a s c.slot tells z.clear;
+        steps = slot_passes t backward w i (short c.tried.ready) c.tried.ready.boat a s c.tried.slot (tells c.tried) z.clear;
         makes = makes_append c.counted z.makes;
       }
 
   pub clear_lives : {x : Counts} → r ≡ Clear x → Lives t v' (take i w ++ (a ∷ [])) (suc i)
   clear_lives {x} e =
-      lives_pass t i v v' c.ready.sane c.only (take i w) a (long c.ready) (kept_lives c.ready c.kept)
-      (subst (λ (g : ℕ). Stays t v v' g a) (long c.ready) (swept (Clear x) e).stays)
+      lives_pass t i v v' c.tried.ready.sane c.only (take i w) a (long c.tried.ready) (kept_lives c.tried.ready c.tried.kept)
+      (subst (λ (g : ℕ). Stays t v v' g a) (long c.tried.ready) (swept (Clear x) e).stays)
 
   module _ {x : Counts} (e : r ≡ OutOf x) where
     stops : StopsIn n (sweep_of t (take i w) a).checks Checks (x.checks - n.checks) x
@@ -256,10 +267,7 @@ module _ {t : Tables} {w : List ℕ} {i : ℕ} {backward : Backward} {a₀ s₀ 
 
     pub swept_out : RunsOut t (steps_over t (ahead_by_plan t) backward) (take i w) a₀ (state backward (set_words w i s₀)) m Checks a (state backward (set_words w i s))
         (1 + (x.checks - n.checks)) x
-    swept_out = stopped c.ready a₀ s₀ m a s c.slot c.live c.comes (stops_behind c.counted stops)
-
-    pub out_rises : n.checks ≤ x.checks
-    out_rises = omega (arith, checks_made stops.makes)
+    swept_out = stopped c.tried (stops_behind c.counted stops)
 
     -- a trial has few checks
     pub out_few : x.checks - n.checks ≤ 4096
@@ -269,9 +277,9 @@ module _ {t : Tables} {w : List ℕ} {i : ℕ} {backward : Backward} {a₀ s₀ 
           ap (length {A = Event}) stops.split,
           length-append stops.before (stops.due ∷ stops.behind),
           stops.count,
-          sweep_few t (take i w) a (λ h lh. rw (choices_size t h) (c.ready.sane.few_slots h lh)) (suc (length (take i w))) (boats t - suc (length (take i w)))
-              (omega (arith, long c.ready, c.ready.boat)),
-          c.ready.sane.few_boats,
+          sweep_few t (take i w) a (λ h lh. rw (choices_size t h) (c.tried.ready.sane.few_slots h lh)) (suc (length (take i w))) (boats t - suc (length (take i w)))
+              (omega (arith, long c.tried.ready, c.tried.ready.boat)),
+          c.tried.ready.sane.few_boats,
         )
 
   module _ {q : ℕ} {x : Counts} (e : r ≡ Emptied x q) where
@@ -279,25 +287,25 @@ module _ {t : Tables} {w : List ℕ} {i : ℕ} {backward : Backward} {a₀ s₀ 
     j = higher t.pairs q
 
     own : lower t.pairs q ≡ i
-    own = (swept (Emptied x q) e).own ∙ long c.ready
+    own = (swept (Emptied x q) e).own ∙ long c.tried.ready
 
     pub is_pair_lem : q < listed t.pairs
     is_pair_lem = (swept (Emptied x q) e).pair
 
     named : j < boats t
-    named = c.ready.sane.boats_named q is_pair_lem
+    named = c.tried.ready.sane.boats_named q is_pair_lem
 
     -- its live word before
     pub before_word : word v' (512 + q) ≡ left_at t.pairs i j
-    before_word = (kept_chained c.ready kept_after).prev q is_pair_lem ∙ ap (λ (g : ℕ). left_at t.pairs g j) own
+    before_word = (kept_chained c.tried.ready kept_after).prev q is_pair_lem ∙ ap (λ (g : ℕ). left_at t.pairs g j) own
 
     pub before_few : word v' (512 + q) < 4096 + listed t.pairs
-    before_few = omega (arith, before_word, left_before t c.ready.sane i i j (le_refl i) named, first_le t.pairs i)
+    before_few = omega (arith, before_word, left_before t c.tried.ready.sane i i j (le_refl i) named, first_le t.pairs i)
 
     emptied_on : (u : ℕ) → (backward ≡ BySets → (g : ℕ) → bit u g ≡ (bit s g || blamers_of t (take i w) j g)) → Comes t w i backward a₀ s₀ m (a + 1) u x
     emptied_on u f =
         rw add-one
-        (come_more t _ c.comes (slot_fails t backward w i (short c.ready) c.ready.boat a s c.slot tells j u (swept (Emptied x q) e).emptied f)
+        (come_more t _ c.tried.comes (slot_fails t backward w i (short c.tried.ready) c.tried.ready.boat a s c.tried.slot (tells c.tried) j u (swept (Emptied x q) e).emptied f)
         (makes_append c.counted (swept (Emptied x q) e).makes))
 
     -- stepping back, the set does not matter
@@ -318,23 +326,23 @@ module _ {t : Tables} {w : List ℕ} {i : ℕ} {backward : Backward} {a₀ s₀ 
           where
             blamed_here : Blames t v' i
             blamed_here =
-                blames_stay t w v' c.ready.sane i (same_before kept_after (le_refl _)) (same_after kept_after (le_refl _))
-                (subst (λ (y : Backward). BlamesKept y t w i) b c.ready.kept.blames)
+                blames_stay t w v' c.tried.ready.sane i (same_before kept_after (le_refl _)) (same_after kept_after (le_refl _))
+                (subst (λ (y : Backward). BlamesKept y t w i) b c.tried.ready.kept.blames)
 
         later : i < j
-        later = omega (arith, own, c.ready.sane.lower_first q is_pair_lem)
+        later = omega (arith, own, c.tried.ready.sane.lower_first q is_pair_lem)
 
         joined : (g : ℕ) → bit (bit_or s blamed) g ≡ (bit s g || blamers_of t (take i w) j g)
         joined g =
             bit_or_lem s blamed g
             ∙ ap (λ (y : Bool). bit s g || y)
-            (lost_blamers t v' (take i w) i j (long c.ready) (le_of_lt later) named (c.ready.sane.few_slots j named) fit (kept_lives c.ready kept_after) blamed is_lost g)
+            (lost_blamers t v' (take i w) i j (long c.tried.ready) (le_of_lt later) named (c.tried.ready.sane.few_slots j named) fit (kept_lives c.tried.ready kept_after) blamed is_lost g)
 
 -- after a sweep there are all the words; where it emptied a boat, the place of the live word before is small
 module _ {t : Tables} {w : List ℕ} {i : ℕ} {backward : Backward} {a₀ s₀ : ℕ} {m : Counts} {a s : ℕ} {k n : Counts} {v v' : List ℕ} {r : Swept}
     (c : AfterSweep t w i backward a₀ s₀ m a s k n v v' r) where
   pub long_after : 8192 ≤ length v'
-  long_after = omega (arith, (kept_after c).long, c.ready.room)
+  long_after = omega (arith, (kept_after c).long, c.tried.ready.room)
 
   pub before_small : {q : ℕ} {x : Counts} → r ≡ Emptied x q → word v' (512 + q) < 6112
-  before_small e = omega (arith, before_few c e, c.ready.sane.few_pairs)
+  before_small e = omega (arith, before_few c e, c.tried.ready.sane.few_pairs)

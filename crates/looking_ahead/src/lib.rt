@@ -2,7 +2,6 @@
 #![tactic(auto)]
 
 ghost use Rattle.std.specs.Prelude.{◌≡◌, ◌^◌, ◌<◌};
-ghost use Rattle.problem.specs.Tables.{Tables, tables};
 ghost use Rattle.methods.specs.ByPlan.{ahead_by_plan};
 ghost use Rattle.words.specs.Places.{live_at, blames};
 ghost use Rattle.words.specs.Layout.{ChangedOnly, first_pair};
@@ -10,44 +9,42 @@ ghost use Rattle.visits.specs.Visits.{Standing, Visits};
 ghost use Rattle.live_words.specs.Kept.{KeptAhead};
 ghost use Rattle.looking_ahead.specs.Ahead.{LivesAfter};
 
-use events::{Counted, Counts};
+use events::Counts;
 use sweeping::Swept;
+use tables::FineTables;
 use visits::{Backward, Visited};
 use words::Words;
 
 // The live slots of boat i from one on. With conflict sets, a slot that empties a later boat puts that boat's blamers into the set.
 pub fn visit(
     backward: Backward,
-    sizes: &[u8],
-    pairs: &[u8],
-    rows: &[u64],
+    tables: &FineTables,
     i: usize,
     from: u64,
     with: u64,
     start: Counts,
     work: &mut [u64],
 ) -> Visited
-    ghost t: { Tables }
-    requires rows_value { tables sizes.now pairs.now rows.now ≡ t }
-    requires standing { Standing t work.old i start }
-    requires kept_ahead { KeptAhead backward t work.old i }
+    requires standing { Standing tables.now work.old i start }
+    requires kept_ahead { KeptAhead backward tables.now work.old i }
     requires with_bound { with < 2 ^ i }
-    ensures visits { Visits t (ahead_by_plan t) backward work.old i from with start result }
-    ensures lives_after { LivesAfter t work.old i work.new result }
-    ensures changed_only { ChangedOnly (live_at (first_pair t.pairs i)) blames work.old work.new }
+    ensures visits { Visits tables.now (ahead_by_plan tables.now) backward work.old i from with start result }
+    ensures lives_after { LivesAfter tables.now work.old i work.new result }
+    ensures changed_only { ChangedOnly (live_at (first_pair tables.now.pairs i)) blames work.old work.new }
 {
     let live = work[work[Words::LASTS + i] as usize];
+    let (sizes, pairs, rows) = (tables.size_bytes(), tables.pair_bytes(), tables.row_words());
     let own = sweeping::own_pairs(sizes, pairs, rows, i, work);
     let size = own.size as u64;
     let mut slot = live_words::next_live(live, from);
     let mut set = with;
     let mut counts = start;
     while slot < size {
-        match counts.trial() {
-            Counted::Within(k) => counts = k,
-            Counted::Out => return Visited::OutOfTrials(counts, set, slot),
-        }
-        match sweeping::sweep(sizes, pairs, rows, i, own, slot, counts, work) {
+        let Some(k) = counts.trial() else {
+            return Visited::OutOfTrials(counts, set, slot);
+        };
+        counts = k;
+        match sweeping::sweep(tables, i, own, slot, counts, work) {
             Swept::Clear(k) => return Visited::Passed(k, set, slot),
             Swept::Emptied(k, pair) => {
                 counts = k;
@@ -56,7 +53,7 @@ pub fn visit(
                     Backward::BySets => {
                         // of the word before: boat i's own strikes are put back
                         let before = work[Words::PREVS + pair] as usize;
-                        set = set | work[Words::BLAMES + before];
+                        set |= work[Words::BLAMES + before];
                     }
                 }
             }

@@ -2,22 +2,15 @@
 #![tactic(auto)]
 
 ghost use Rattle.std.specs.Prelude.{◌≡◌, ℕ, ◌*◌, ◌<◌, ◌≤◌, length};
-ghost use Rattle.problem.specs.Tables.{size, listed, lower, higher, place, start, bit as bit_of};
+ghost use Rattle.problem.specs.Tables.{size, listed, lower, higher, IsPlace, start, bit as bit_of};
 ghost use Rattle.problem.specs.Rising.{Rising};
-
-// A byte as a number of boats, slots or bytes.
-pub fn wide(x: u8) -> usize
-    ensures { (result ≡ x) × (result < 256) }
-{
-    x as usize
-}
 
 // How many slots a boat has.
 pub fn size_of(sizes: &[u8], boat: usize) -> usize
     requires { boat < length sizes.now }
     ensures { (result ≡ size sizes.now boat) × (result < 256) }
 {
-    wide(sizes[boat])
+    usize::from(sizes[boat])
 }
 
 // The lower boat of a listed pair.
@@ -25,7 +18,7 @@ pub fn lower_of(pairs: &[u8], pair: usize) -> usize
     requires { pair < listed pairs.now }
     ensures { (result ≡ lower pairs.now pair) × (result < 256) }
 {
-    wide(pairs[2 * pair])
+    usize::from(pairs[2 * pair])
 }
 
 // The higher boat of a listed pair.
@@ -33,25 +26,20 @@ pub fn higher_of(pairs: &[u8], pair: usize) -> usize
     requires { pair < listed pairs.now }
     ensures { (result ≡ higher pairs.now pair) × (result < 256) }
 {
-    wide(pairs[2 * pair + 1])
+    usize::from(pairs[2 * pair + 1])
 }
 
-// The place of the pair of two boats among the listed pairs, which rise; their number where it is not listed.
-pub fn place_of(pairs: &[u8], low: usize, high: usize) -> usize
+// The place of the pair of two boats among the listed pairs, which rise; none where it is not listed.
+pub fn place_of(pairs: &[u8], low: usize, high: usize) -> Option<usize>
     requires { Rising pairs.now }
-    ensures { result ≡ place pairs.now low high }
+    ensures { IsPlace result pairs.now low high }
 {
-    let count = pairs.len() / 2;
-    let mut k: usize = 0;
-    while k < count {
-        if lower_of(pairs, k) == low {
-            if higher_of(pairs, k) == high {
-                return k;
-            }
+    for k in 0..pairs.len() / 2 {
+        if lower_of(pairs, k) == low && higher_of(pairs, k) == high {
+            return Some(k);
         }
-        k += 1;
     }
-    count
+    None
 }
 
 // The word where the rows of a listed pair begin; for the number of pairs, the number of row words.
@@ -62,10 +50,8 @@ pub fn start_of(sizes: &[u8], pairs: &[u8], pair: usize) -> usize
     ensures { (result ≡ start sizes.now pairs.now pair) × (result ≤ 255 * pair) }
 {
     let mut words: usize = 0;
-    let mut k: usize = 0;
-    while k < pair {
+    for k in 0..pair {
         words += size_of(sizes, lower_of(pairs, k));
-        k += 1;
     }
     words
 }

@@ -13,8 +13,7 @@ use Rattle.problem.specs.Tables.{Tables, boats, size}
 use Rattle.problem.specs.declared.Allowance.{Allowance}
 use Rattle.problem.specs.declared.Allowance.TheVariants.{Checks, Trials}
 use Rattle.events.specs.declared.Counts.{Counts}
-use Rattle.events.specs.declared.Counted.{Counted}
-use Rattle.events.specs.declared.Counted.TheVariants.{Within, Out}
+use Rattle.std.specs.Prelude.{Option, Some, None}
 use Rattle.events.specs.Events.{Event, trial}
 use Rattle.events.specs.Counts.{trial_counted, Makes, StopsIn}
 use Rattle.events.proofs.Leading.{makes_trial, makes_append, trial_stops, stops_behind}
@@ -127,19 +126,19 @@ module _ {t : Tables} {v : List ℕ} {i a : ℕ} {m : Counts} {w : List ℕ} {b 
       record { reached = k; comes = x.come.comes; stops = record { inside = inside; events = _; plan = _; choice = _; after = _; steps = e; stops = z } }
 
   -- ---- the trial is not covered, or counted
-  pub no_trial : (r : Counted) → r ≡ trial_counted k → r ≡ Out → RunsOut t (bm t) (take i v) a (marks_of v) m Trials b (marks_of w) 0 k
+  pub no_trial : (r : Option Counts) → r ≡ trial_counted k → r ≡ None → RunsOut t (bm t) (take i v) a (marks_of v) m Trials b (marks_of w) 0 k
   no_trial r e g = by (dec_lt (word w (mark_at i b)) (word v (low_at i)))
     where
       by : Dec (word w (mark_at i b) < word v (low_at i)) → RunsOut t (bm t) (take i v) a (marks_of v) m Trials b (marks_of w) 0 k
       by (yes l) = stopped (below_steps l) (trial_stops k x.come.comes.makes.fits i b _ (sym e ∙ g))
       by (no n) = stopped (looks_steps (omega arith)) (trial_stops k x.come.comes.makes.fits i b _ (sym e ∙ g))
 
-  module _ (r : Counted) (k' : Counts) (e : r ≡ trial_counted k) where
-    pub tried : r ≡ Within k' → Makes k (trial i b ∷ []) k'
+  module _ (r : Option Counts) (k' : Counts) (e : r ≡ trial_counted k) where
+    pub tried : r ≡ Some k' → Makes k (trial i b ∷ []) k'
     tried g = makes_trial k k' x.come.comes.makes.fits i b (sym e ∙ g)
 
     -- the mark tells that the slot fails
-    pub skips : r ≡ Within k' → word w (mark_at i b) < word v (low_at i) → Come t v i a m w (b + 1) k'
+    pub skips : r ≡ Some k' → word w (mark_at i b) < word v (low_at i) → Come t v i a m w (b + 1) k'
     skips g l = record { only = x.come.only; comes = rw add-one (come_more t (bm t) x.come.comes (below_steps l) (tried g)) }
 
   -- ---- the mark does not tell, and boats are looked at

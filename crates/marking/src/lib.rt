@@ -1,8 +1,8 @@
 // BM: a trial looks back only as far as its mark and the boat's b do not already tell.
 #![tactic(auto)]
 
-ghost use Rattle.std.specs.Prelude.{◌≡◌, pred, ◌+◌, ◌-◌, ◌<◌, length, get_or};
-ghost use Rattle.problem.specs.Tables.{Tables, tables, bit};
+ghost use Rattle.std.specs.Prelude.{◌≡◌, ◌+◌, ◌-◌, ◌<◌, length, get_or};
+ghost use Rattle.problem.specs.Tables.{bit};
 ghost use Rattle.words.specs.Places.{mark_at};
 ghost use Rattle.words.specs.Layout.{ChangedOnly};
 ghost use Rattle.visits.specs.Visits.{Standing};
@@ -10,7 +10,8 @@ ghost use Rattle.marking.specs.Visits.{VisitsMarked};
 ghost use Rattle.marks.specs.Kept.{KeptMarked};
 ghost use Rattle.marking.specs.Looks.{looked_at};
 
-use events::{Counted, Counts};
+use events::Counts;
+use tables::FineTables;
 use visits::{Look, Visited};
 use words::Words;
 
@@ -27,69 +28,49 @@ fn look_at(rows: &[u64], index: u64, held: u64, slot: u64, counts: Counts) -> Lo
     visits::check_row(rows[at], slot, counts)
 }
 
-// The mark of a slot that passed: the boat before; at boat 0 it stays 0.
-fn boat_before(i: usize) -> u64
-    ensures { result ≡ pred i }
-{
-    if i == 0 { 0 } else { (i - 1) as u64 }
-}
-
 // The slots of boat i from one on. Where the mark does not tell that a slot fails, the boats from b on are looked at until one fails; the mark becomes the last boat looked at.
-pub fn visit(
-    sizes: &[u8],
-    pairs: &[u8],
-    rows: &[u64],
-    i: usize,
-    from: u64,
-    start: Counts,
-    work: &mut [u64],
-) -> Visited
-    ghost t: { Tables }
-    requires rows_value { tables sizes.now pairs.now rows.now ≡ t }
-    requires standing { Standing t work.old i start }
-    requires kept_marked { KeptMarked t work.old i }
-    ensures visits_marked { VisitsMarked t work.old i from start work.new result }
+pub fn visit(tables: &FineTables, i: usize, from: u64, start: Counts, work: &mut [u64]) -> Visited
+    requires standing { Standing tables.now work.old i start }
+    requires kept_marked { KeptMarked tables.now work.old i }
+    ensures visits_marked { VisitsMarked tables.now work.old i from start work.new result }
     ensures changed_only { ChangedOnly (mark_at i 0) (mark_at i 64) work.old work.new }
 {
-    let size = looks::size_of(sizes, i) as u64;
+    let size = tables.size(i) as u64;
+    let rows = tables.row_words();
     let row = words::row_at(i);
     let low = work[Words::LOWS + i];
-    let mut slot = from;
     let mut counts = start;
-    while slot < size {
-        match counts.trial() {
-            Counted::Within(k) => counts = k,
-            Counted::Out => return Visited::OutOfTrials(counts, 0, slot),
-        }
+    for slot in from..size {
+        let Some(tried) = counts.trial() else {
+            return Visited::OutOfTrials(counts, 0, slot);
+        };
+        counts = tried;
         let mark = Words::MARKS + 64 * i + (slot as usize);
         if low <= work[mark] {
-            let tried = counts.checks;
-            let mut h = low as usize;
-            let failing = 'boats: loop {
-                if i <= h {
-                    break 'boats i;
-                }
-                match look_at(rows, work[row + h], work[h], slot, counts) {
-                    Look::Allowed(k) => counts = k,
-                    Look::Forbidden(k) => {
-                        counts = k;
-                        break 'boats h;
-                    }
-                    Look::OutOfChecks => {
-                        // Of this step the trial is made, and the checks since.
-                        let made = 1 + (counts.checks - tried);
-                        return Visited::OutOfChecks(counts, 0, slot, made);
+            let failing = 'boats: {
+                for h in low as usize..i {
+                    match look_at(rows, work[row + h], work[h], slot, counts) {
+                        Look::Allowed(k) => counts = k,
+                        Look::Forbidden(k) => {
+                            counts = k;
+                            break 'boats Some(h);
+                        }
+                        Look::OutOfChecks => {
+                            // Of this step the trial is made, and the checks since.
+                            let made = 1 + (counts.checks - tried.checks);
+                            return Visited::OutOfChecks(counts, 0, slot, made);
+                        }
                     }
                 }
-                h += 1;
+                None
             };
-            if failing == i {
-                work[mark] = boat_before(i);
+            let Some(h) = failing else {
+                // The boat before; at boat 0 the mark stays 0.
+                work[mark] = i.saturating_sub(1) as u64;
                 return Visited::Passed(counts, 0, slot);
-            }
-            work[mark] = failing as u64;
+            };
+            work[mark] = h as u64;
         }
-        slot += 1;
     }
     Visited::Spent(counts, 0)
 }

@@ -17,12 +17,10 @@ pub fn lower(n: usize, i: usize, h: usize, work: &mut [u64])
     ensures changed_only { ChangedOnly (low_at i) (low_at n) work.old work.new }
 {
     work[Words::LOWS + i] = h as u64;
-    let mut j = i + 1;
-    while j < n {
+    for j in i + 1..n {
         if work[Words::LOWS + j] <= h as u64 {
             return;
         }
         work[Words::LOWS + j] = h as u64;
-        j += 1;
     }
 }

@@ -124,9 +124,9 @@ module _ (t : Tables) {w w' : List ℕ} (zero : Zero 0 used w) (found : Indexed 
   later : (k : ℕ) → 4096 ≤ k → k < 8192 → word w' k ≡ 0
   later k lo hi = o.others k (inr lo) ∙ zero k (omega arith) hi
 
-  pub prepared_marking : boats t ≤ 64 → Prepared Marking t w w'
+  pub prepared_marking : Prepared Marking t w w'
   unfolding bm
-  prepared_marking few =
+  prepared_marking =
       record {
         kept = record { indexed = found; placed = none_placed t w'; none = λ k lo hi. still k (omega arith); falls = λ j lo hi. omega (arith, still (low_at (j + 1)) (omega arith)) };
         fresh = no_marks_lem w' (λ i l. still (low_at i) (omega arith)) (λ i a li la. later (mark_at i a) (omega arith) (omega arith));

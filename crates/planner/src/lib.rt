@@ -1,15 +1,36 @@
 // The operation that people call: run a method on tables, under allowances.
 #![tactic(auto)]
 
-ghost use Rattle.std.specs.Prelude.{◌≡◌};
-ghost use Rattle.problem.specs.Tables.{Tables, tables};
+ghost use Rattle.std.specs.Prelude.{◌≡◌, ◌≤◌, length};
+ghost use Rattle.problem.specs.Tables.{tables};
+ghost use Rattle.events.specs.Counts.{Fits};
+ghost use Rattle.words.specs.Places.{used};
+ghost use Rattle.moves.specs.Memory.{moves_of};
+ghost use Rattle.searching.specs.Searched.{Searched};
 ghost use Rattle.tables.specs.Examination.{Fine};
 ghost use Rattle.runs.specs.Runs.{run_result, result_of};
 ghost use Rattle.runs.specs.Lent.{lent_result};
 
+use ends::Ended;
 use events::Counts;
-use problem::{Method, MethodFound, Problem, Refusal, Reply};
-use tables::Examined;
+use moving::{BySets, LookingAhead, LookingBack, Marking, OneBack};
+use problem::{Method, Problem, Refusal, Reply};
+use tables::FineTables;
+
+// The one place where a method becomes its moves.
+fn searched(method: Method, tables: &FineTables, start: Counts, work: &mut [u64]) -> Ended
+    requires used_in_bounds { used ≤ length work.old }
+    requires fits { Fits start }
+    ensures { Searched (moves_of method) tables.now work.old start work.new result }
+{
+    match method {
+        Method::Bt => searching::search::<LookingBack<OneBack>>(tables, start, work),
+        Method::Cbj => searching::search::<LookingBack<BySets>>(tables, start, work),
+        Method::Bm => searching::search::<Marking>(tables, start, work),
+        Method::Fc => searching::search::<LookingAhead<OneBack>>(tables, start, work),
+        Method::FcCbj => searching::search::<LookingAhead<BySets>>(tables, start, work),
+    }
+}
 
 // The tables are fine. The lent memory is tested; then comes the search, and the words are cleared after it.
 fn run_fine(
@@ -22,23 +43,21 @@ fn run_fine(
     checks: u64,
     trials: u64,
 ) -> Reply
-    ghost t: { Tables }
-    requires rows_value { tables sizes.now pairs.now rows.now ≡ t }
-    requires fine { Fine t }
-    ensures { result_of result plan.new work.new ≡ lent_result method t plan.old work.old checks trials }
+    requires { Fine (tables sizes.now pairs.now rows.now) }
+    ensures { result_of result plan.new work.new ≡ lent_result method (tables sizes.now pairs.now rows.now) plan.old work.old checks trials }
 {
-    let n = sizes.len();
+    let tables = FineTables::fine(sizes, pairs, rows);
+    let n = tables.boats();
     if plan.len() < n {
-        return ends::refused(Refusal::PlanMemory);
+        return Reply::from(Refusal::PlanMemory);
     }
     if Problem::short_work(work.len()) {
-        return ends::refused(Refusal::WorkMemory);
+        return Reply::from(Refusal::WorkMemory);
     }
-    let moves = moves::moves_of(method);
-    let ended = searching::search(moves, sizes, pairs, rows, Counts::new(checks, trials), work);
+    let ended = searched(method, &tables, Counts::new(checks, trials), work);
     ends::write_plan(ended, n, work, plan);
     words::clear(work);
-    ends::reply_of(ended)
+    Reply::from(ended)
 }
 
 // Runs a method by its number. Only a run that is not refused changes what is lent: a solved one writes the plan, and each leaves the first 8,192 words 0.
@@ -54,14 +73,12 @@ pub fn run(
 ) -> Reply
     ensures { result_of result plan.new work.new ≡ run_result method (tables sizes.now pairs.now rows.now) plan.old work.old checks trials }
 {
-    let named = Problem::method_of(method);
-    let MethodFound::Found(chosen) = named else {
-        return ends::refused(Refusal::Method);
+    let Ok(chosen) = Method::try_from(method) else {
+        return Reply::from(Refusal::Method);
     };
     // An else binds nothing, so it is the refusal that is bound here, and returned below with counts 0.
-    let examined = tables::examine(sizes, pairs, rows);
-    let Examined::Refused(why) = examined else {
+    let Err(why) = tables::examine(sizes, pairs, rows) else {
         return run_fine(chosen, sizes, pairs, rows, plan, work, checks, trials);
     };
-    ends::refused(why)
+    Reply::from(why)
 }

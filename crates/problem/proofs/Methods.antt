@@ -1,13 +1,10 @@
 -- No number but the five is a method.
-use mathlib.Core.Path.{◌≡◌, refl, sym, ap}
+use mathlib.Core.Path.{◌≡◌, refl}
 use Prim.Native.Nat.{ℕ, zero, suc}
-use Rattle.problem.specs.declared.MethodFound.TheVariants.{NotFound}
+use Rattle.std.specs.Prelude.{None}
 use Rattle.problem.specs.Methods.{method_numbered}
 
-pub method_at : (n k : ℕ) → n ≡ k → method_numbered k ≡ method_numbered n
-method_at n k e = ap method_numbered (sym e)
-
-pub method_none : (n : ℕ) → (n ≡ 1 → ⊥) → (n ≡ 2 → ⊥) → (n ≡ 3 → ⊥) → (n ≡ 4 → ⊥) → (n ≡ 5 → ⊥) → NotFound ≡ method_numbered n
+pub method_none : (n : ℕ) → (n ≡ 1 → ⊥) → (n ≡ 2 → ⊥) → (n ≡ 3 → ⊥) → (n ≡ 4 → ⊥) → (n ≡ 5 → ⊥) → None ≡ method_numbered n
 method_none zero a b c d e = refl
 method_none (suc zero) a b c d e = absurd (a refl)
 method_none (suc (suc zero)) a b c d e = absurd (b refl)

@@ -5,6 +5,7 @@ use Rattle.problem.specs.declared.Refusal.TheVariants.{Method, Boats, Size, Pair
 use Rattle.problem.specs.declared.Allowance.TheVariants.{Checks, Trials}
 use Rattle.problem.specs.declared.Answer.{Answer}
 use Rattle.problem.specs.declared.Answer.TheVariants.{Solved, NoPlan, Undecided, Refused}
+use Rattle.problem.specs.declared.Reply.{Reply}
 
 -- ---- a refusal's number, and its place
 abbrev pub refusal_number : Refusal → ℕ
@@ -72,3 +73,7 @@ answer_told NoPlan = told 1 []
 answer_told (Undecided Checks) = told 2 []
 answer_told (Undecided Trials) = told 3 []
 answer_told (Refused why) = refusal_told why
+
+-- a refusal as a run's reply
+abbrev pub refused_reply : Refusal → Reply
+refused_reply why = record { answer = Refused why; checks = 0; trials = 0 }

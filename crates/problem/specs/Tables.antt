@@ -1,5 +1,5 @@
 -- The harbour's tables: three lists, and what they say. (Document 01, 'The harbour's problem'.)
-use Rattle.std.specs.Prelude.{Bool, not, ◌&&◌, ◌||◌, List, ℕ, ◌+◌, ◌*◌, ◌/◌, ◌%◌, ◌^◌, ltb, eqb, length, get_or}
+use Rattle.std.specs.Prelude.{◌≡◌, Bool, not, ◌&&◌, ◌||◌, List, ℕ, ◌+◌, ◌*◌, ◌/◌, ◌%◌, ◌^◌, ◌<◌, ltb, eqb, length, get_or, Option, Some, None}
 use Rattle.problem.specs.Lowest.{lowest, sum}
 
 -- a byte for each boat; two bytes for each listed pair; for each listed pair in turn, a word for each slot of its lower boat
@@ -35,6 +35,11 @@ is_pair pairs h i k = eqb (lower pairs k) h && eqb (higher pairs k) i
 -- the place of the pair of boats h and i among the listed ones; `listed` where it is not listed
 unfoldable pub place : List ℕ → (h i : ℕ) → ℕ
 place pairs h i = lowest (listed pairs) (is_pair pairs h i)
+
+-- an answer says whether it is listed, and where
+abbrev pub IsPlace : Option ℕ → List ℕ → (h i : ℕ) → Type 0
+IsPlace (Some k) pairs h i = (k < listed pairs) × (k ≡ place pairs h i)
+IsPlace None pairs h i = place pairs h i ≡ listed pairs
 
 unfoldable pub is_listed : List ℕ → (h i : ℕ) → Bool
 is_listed pairs h i = ltb (place pairs h i) (listed pairs)

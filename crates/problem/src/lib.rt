@@ -2,11 +2,11 @@
 #![tactic(auto)]
 
 ghost use Rattle.std.specs.Prelude.{◌≡◌, ◌||◌, ◌%◌, ltb, eqb};
-ghost use Rattle.problem.specs.Methods.{method_numbered};
-ghost use Rattle.problem.specs.Replies.{refusal_number, refusal_place};
+ghost use Rattle.problem.specs.Methods.{method_numbered, method_or_refused};
+ghost use Rattle.problem.specs.Replies.{refusal_number, refusal_place, refused_reply};
 
 // A problem by its numbers: boats, listed pairs and row words. It holds none of the tables.
-#[derive(Drop)]
+#[derive(Clone, Copy, PartialEq, Eq)]
 pub struct Problem {
     pub boats: usize,
     pub pairs: usize,
@@ -69,32 +69,10 @@ impl Problem {
     {
         words < Self::WORK
     }
-
-    // The method that has a number: no number but the five has one.
-    pub fn method_of(method: u64) -> MethodFound
-        ensures { result ≡ method_numbered method }
-    {
-        if method == Self::BT {
-            return MethodFound::Found(Method::Bt);
-        }
-        if method == Self::CBJ {
-            return MethodFound::Found(Method::Cbj);
-        }
-        if method == Self::BM {
-            return MethodFound::Found(Method::Bm);
-        }
-        if method == Self::FC {
-            return MethodFound::Found(Method::Fc);
-        }
-        if method == Self::FC_CBJ {
-            return MethodFound::Found(Method::FcCbj);
-        }
-        MethodFound::NotFound
-    }
 }
 
 // The five methods.
-#[derive(Drop)]
+#[derive(Clone, Copy, PartialEq, Eq)]
 pub enum Method {
     Bt,
     Cbj,
@@ -103,15 +81,26 @@ pub enum Method {
     FcCbj,
 }
 
-// The method that a number names, if it names one.
-#[derive(Drop)]
-pub enum MethodFound {
-    Found(Method),
-    NotFound,
+// No number but the five is a method's.
+impl TryFrom<u64> for Method {
+    type Error = Refusal;
+
+    ghost try_from_gives = { λ number method. method ≡ method_or_refused (method_numbered number) };
+
+    fn try_from(number: u64) -> Result<Self, Refusal> {
+        match number {
+            Problem::BT => Ok(Method::Bt),
+            Problem::CBJ => Ok(Method::Cbj),
+            Problem::BM => Ok(Method::Bm),
+            Problem::FC => Ok(Method::Fc),
+            Problem::FC_CBJ => Ok(Method::FcCbj),
+            _ => Err(Refusal::Method),
+        }
+    }
 }
 
 // Why an operation refuses its input, with the place where the paper gives one other than 0.
-#[derive(Drop)]
+#[derive(Clone, Copy, PartialEq, Eq)]
 pub enum Refusal {
     Method,
     Boats,
@@ -136,13 +125,13 @@ pub enum Refusal {
 }
 
 // The allowance that ran out.
-#[derive(Clone, Copy)]
+#[derive(Clone, Copy, PartialEq, Eq)]
 pub enum Allowance {
     Checks,
     Trials,
 }
 
-#[derive(Drop)]
+#[derive(Clone, Copy, PartialEq, Eq)]
 pub enum Answer {
     Solved,
     NoPlan,
@@ -151,45 +140,60 @@ pub enum Answer {
 }
 
 // The answer of a run beside both counts.
-#[derive(Drop)]
+#[derive(Clone, Copy, PartialEq, Eq)]
 pub struct Reply {
     pub answer: Answer,
     pub checks: u64,
     pub trials: u64,
 }
 
+// A refused run has made no check and no trial.
+impl From<Refusal> for Reply {
+    ghost from_gives = { λ why reply. reply ≡ refused_reply why };
+
+    fn from(why: Refusal) -> Self {
+        Self {
+            answer: Answer::Refused(why),
+            checks: 0,
+            trials: 0,
+        }
+    }
+}
+
 // A refusal as the paper has it.
-#[derive(Drop)]
+#[derive(Clone, Copy, PartialEq, Eq)]
 pub struct Numbered {
     pub number: u64,
     pub place: u64,
 }
 
 // The one place where a refusal becomes its number and place.
-pub fn number_of(why: Refusal) -> Numbered
-    ensures { (result.number ≡ refusal_number why) × (result.place ≡ refusal_place why) }
-{
-    match why {
-        Refusal::Method => at(1, 0),
-        Refusal::Boats => at(2, 0),
-        Refusal::Size(boat) => at(3, boat),
-        Refusal::PairBytes => at(4, 0),
-        Refusal::PairNoBoat(byte) => at(51, byte),
-        Refusal::PairSameBoat(byte) => at(52, byte),
-        Refusal::PairHigherFirst(byte) => at(53, byte),
-        Refusal::PairNotRising(byte) => at(54, byte),
-        Refusal::RowWords => at(6, 0),
-        Refusal::RowBit(word) => at(7, word),
-        Refusal::PlanMemory => at(8, 0),
-        Refusal::WorkMemory => at(9, 0),
-        Refusal::GivenLength => at(10, 0),
-        Refusal::GivenSlot(boat) => at(11, boat),
-        Refusal::Mark(byte) => at(21, byte),
-        Refusal::FileEnd(byte) => at(22, byte),
-        Refusal::FileBoat(byte) => at(23, byte),
-        Refusal::FileCount(byte) => at(24, byte),
-        Refusal::FileRest(byte) => at(25, byte),
-        Refusal::Room => at(26, 0),
+impl From<Refusal> for Numbered {
+    ghost from_gives = { λ why numbered. (numbered.number ≡ refusal_number why) × (numbered.place ≡ refusal_place why) };
+
+    fn from(why: Refusal) -> Self {
+        match why {
+            Refusal::Method => at(1, 0),
+            Refusal::Boats => at(2, 0),
+            Refusal::Size(boat) => at(3, boat),
+            Refusal::PairBytes => at(4, 0),
+            Refusal::PairNoBoat(byte) => at(51, byte),
+            Refusal::PairSameBoat(byte) => at(52, byte),
+            Refusal::PairHigherFirst(byte) => at(53, byte),
+            Refusal::PairNotRising(byte) => at(54, byte),
+            Refusal::RowWords => at(6, 0),
+            Refusal::RowBit(word) => at(7, word),
+            Refusal::PlanMemory => at(8, 0),
+            Refusal::WorkMemory => at(9, 0),
+            Refusal::GivenLength => at(10, 0),
+            Refusal::GivenSlot(boat) => at(11, boat),
+            Refusal::Mark(byte) => at(21, byte),
+            Refusal::FileEnd(byte) => at(22, byte),
+            Refusal::FileBoat(byte) => at(23, byte),
+            Refusal::FileCount(byte) => at(24, byte),
+            Refusal::FileRest(byte) => at(25, byte),
+            Refusal::Room => at(26, 0),
+        }
     }
 }
 

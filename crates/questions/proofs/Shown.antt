@@ -1,79 +1,77 @@
 -- The part of the rows that is shown for two boats, and that it is within the rows.
 use mathlib.Core.Path.{◌≡◌, refl, sym, ap, ap₂, ◌∙◌}
 use mathlib.Core.Bool.{Bool, true, false, ◌&&◌}
-use mathlib.Core.List.{[], ◌∷◌}
 use Prim.Native.Nat.{ℕ, suc, ◌+◌, ◌≤◌, ◌<◌}
 use native.Mathlib.Omega.{arith}
 use borrow.Author.Tests.{eqb-true, eq-eqb, ne_eqb}
 use lib.Dec.{eqb}
-use lib.ListN.{length, get_or}
-use Rattle.problem.specs.Tables.{Tables, boats, size, listed, lower, place, is_listed, start}
-use Rattle.problem.specs.Replies.{Told, told}
+use lib.ListN.{length}
+use Rattle.std.specs.Prelude.{Some, None}
+use Rattle.problem.specs.Tables.{Tables, boats, size, listed, place, IsPlace, is_listed, start}
+use Rattle.problem.specs.Replies.{refusal_told}
+use Rattle.problem.specs.declared.Refusal.{Refusal}
 use Rattle.problem.proofs.Starts.{start_suc, start_mono}
 use Rattle.problem.proofs.Places.{both_true, place_pair, listed_lt, lt_listed, unlisted_le, lower_named_lem}
-use Rattle.tables.specs.Examination.{examination, Fine}
-use Rattle.tables.proofs.Fine.{fine_sane, fine_told_lem}
-use Rattle.questions.specs.declared.Part.{Part}
+use Rattle.tables.specs.Examination.{examination, fine_told, Fine}
+use Rattle.tables.proofs.Fine.{fine_sane}
+use Rattle.std.specs.declared.ops.Range.{Range}
 use Rattle.questions.specs.Questions.{part_or_none, rows_shown}
 
+-- the tables that the examination hands on are the ones that it was given, and fine
+pub is_fine : {t given : Tables} → fine_told t ≡ examination given → t ≡ given → Fine t
+is_fine is same = rw same (sym (ap (λ w. w.number) is))
+
 module _ (t : Tables) (h i : ℕ) where
-  abbrev shown_if : Bool → Part
+  abbrev shown_if : Bool → Range ℕ
   shown_if b =
       part_or_none b (start t.sizes t.pairs (place t.pairs h i)) (start t.sizes t.pairs (suc (place t.pairs h i)))
 
   -- tables that are refused show nothing
-  pub shown_refused : {v w : Told} → v ≡ w → v ≡ examination t → 100 ≤ w.number → record { from = 0; to = 0 } ≡ rows_shown t h i
+  pub shown_refused : (why : Refusal) → refusal_told why ≡ examination t → record { start = 0; end = 0 } ≡ rows_shown t h i
   unfolding rows_shown
-  shown_refused is says l =
+  shown_refused why is =
       ap (λ b. shown_if (b && is_listed t.pairs h i))
-      (sym (ne_eqb (examination t).number 0 (λ z. omega (arith, ap (λ x. x.number) is, ap (λ x. x.number) says))))
+      (sym (ne_eqb (examination t).number 0 (λ z. omega (arith, ap (λ x. x.number) is))))
 
-  -- tables that are fine, with the numbers that the examination gives back, and the place of the pair
-  module _ {n count m : ℕ} (is : told 0 (n ∷ count ∷ m ∷ []) ≡ examination t) {pair : ℕ} (is_pair_lem : pair ≡ place t.pairs h i) where
-    fine : Fine t
-    fine = sym (ap (λ x. x.number) is)
-
-    count_is : count ≡ listed t.pairs
-    count_is = ap (λ x. get_or x.values 1 0) (is ∙ fine_told_lem t fine)
-
+  -- tables that are fine, and the place of the pair
+  module _ (fine : Fine t) where
     flag_is : {b : Bool} → is_listed t.pairs h i ≡ b → (eqb (examination t).number 0 && is_listed t.pairs h i) ≡ b
     flag_is e = ap₂ ◌&&◌ (eq-eqb (examination t).number 0 fine) e
 
-    pub shown_unlisted : count ≤ pair → record { from = 0; to = 0 } ≡ rows_shown t h i
+    pub shown_unlisted : IsPlace None t.pairs h i → record { start = 0; end = 0 } ≡ rows_shown t h i
     unfolding rows_shown
-    shown_unlisted l = ap shown_if (sym (flag_is (unlisted_le t.pairs h i (omega (arith, count_is)))))
+    shown_unlisted is = ap shown_if (sym (flag_is (unlisted_le t.pairs h i (omega arith))))
 
-    module _ (l : pair < count) where
+    module _ {pair : ℕ} (is : IsPlace (Some pair) t.pairs h i) where
       inside : place t.pairs h i < listed t.pairs
-      inside = omega (arith, count_is)
-
-      -- what the sum of the words before the pair's asks
-      pub shown_summable : (length t.pairs ≤ 4032)
-          × ((pair ≤ listed t.pairs) × ((k : ℕ) → k < pair → lower t.pairs k < boats t))
-      shown_summable =
-          let s = fine_sane t fine in
-          (omega (arith, s.two_bytes, s.few_pairs), (omega (arith, inside), λ k m. lower_named_lem t s k (omega (arith, inside))))
+      inside = omega arith
 
       pub shown_named : h < boats t
       shown_named = omega (arith, lower_named_lem t (fine_sane t fine) (place t.pairs h i) inside, (place_pair t.pairs h i inside).0)
 
-      pub shown_listed : {from wide : ℕ} → from ≡ start t.sizes t.pairs pair → wide ≡ size t.sizes h
-          → record { from = from; to = from + wide } ≡ rows_shown t h i
-      unfolding rows_shown
-      shown_listed {from} {wide} f w =
-          let first : from ≡ start t.sizes t.pairs (place t.pairs h i) = f ∙ ap (start t.sizes t.pairs) is_pair_lem in
-          let next : from + wide ≡ start t.sizes t.pairs (suc (place t.pairs h i)) =
-          omega
-          (arith, start_suc t.sizes t.pairs (place t.pairs h i), ap (size t.sizes) (place_pair t.pairs h i inside).0) in
-          ap₂ (part_or_none true) first next ∙ ap shown_if (sym (flag_is (lt_listed t.pairs h i inside)))
+      module _ {from wide : ℕ} (f : from ≡ start t.sizes t.pairs pair) (w : wide ≡ size t.sizes h) where
+        next : from + wide ≡ start t.sizes t.pairs (suc (place t.pairs h i))
+        next =
+            omega
+            (arith, ap (start t.sizes t.pairs) is.1, start_suc t.sizes t.pairs (place t.pairs h i), ap (size t.sizes) (place_pair t.pairs h i inside).0)
+
+        pub shown_within : from + wide ≤ length t.rows
+        shown_within =
+            let s = fine_sane t fine in
+            omega (arith, next, start_mono t.sizes t.pairs (suc (place t.pairs h i)) (listed t.pairs) inside, s.row_words)
+
+        pub shown_listed : record { start = from; end = from + wide } ≡ rows_shown t h i
+        unfolding rows_shown
+        shown_listed =
+            ap₂ (part_or_none true) (f ∙ ap (start t.sizes t.pairs) is.1) next ∙ ap shown_if (sym (flag_is (lt_listed t.pairs h i inside)))
 
   -- what is shown is a part of the rows
-  pub shown_inside : ((rows_shown t h i).from ≤ (rows_shown t h i).to) × ((rows_shown t h i).to ≤ length t.rows)
+  pub shown_inside : ((rows_shown t h i).start ≤ (rows_shown t h i).end) × ((rows_shown t h i).end ≤ length t.rows)
   unfolding rows_shown
   shown_inside = by (eqb (examination t).number 0 && is_listed t.pairs h i) refl
     where
       by : (b : Bool) → (eqb (examination t).number 0 && is_listed t.pairs h i) ≡ b
-          → ((shown_if b).from ≤ (shown_if b).to) × ((shown_if b).to ≤ length t.rows)
+          → ((shown_if b).start ≤ (shown_if b).end) × ((shown_if b).end ≤ length t.rows)
       by true e =
           let q = both_true _ _ e in
           let s = fine_sane t (eqb-true (examination t).number 0 q.0) in

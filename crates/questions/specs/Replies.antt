@@ -1,17 +1,16 @@
 -- What the replies about a given plan say on paper.
-use Rattle.std.specs.Prelude.{[], ◌∷◌}
+use Rattle.std.specs.Prelude.{Bool, true, false, [], ◌∷◌, ℕ, Option, Some, None, Result, Ok, Err}
 use Rattle.problem.specs.Replies.{Told, told, refusal_told}
-use Rattle.questions.specs.declared.Judged.{Judged}
-use Rattle.questions.specs.declared.Judged.TheVariants.{Lawful, Unlawful, Refused as JudgedRefused}
-use Rattle.questions.specs.declared.Broken.{Broken}
-use Rattle.questions.specs.declared.Broken.TheVariants.{Nowhere, Pair, Refused as BrokenRefused}
+use Rattle.problem.specs.declared.Refusal.{Refusal}
 
-abbrev pub judged_told : Judged → Told
-judged_told Lawful = told 0 []
-judged_told Unlawful = told 1 []
-judged_told (JudgedRefused why) = refusal_told why
+-- is the plan lawful?
+abbrev pub judged_told : Result Bool Refusal → Told
+judged_told (Ok true) = told 0 []
+judged_told (Ok false) = told 1 []
+judged_told (Err why) = refusal_told why
 
-abbrev pub broken_told : Broken → Told
-broken_told Nowhere = told 0 []
-broken_told (Pair k) = told 1 (k ∷ [])
-broken_told (BrokenRefused why) = refusal_told why
+-- which pair does it break, if it breaks one?
+abbrev pub broken_told : Result (Option ℕ) Refusal → Told
+broken_told (Ok None) = told 0 []
+broken_told (Ok (Some k)) = told 1 (k ∷ [])
+broken_told (Err why) = refusal_told why

@@ -1,71 +1,56 @@
 // Numbers 10 and 11, and the lowest broken pair: a given plan, after the examination.
 ghost use Rattle.std.specs.Prelude.{◌≡◌, length};
-ghost use Rattle.problem.specs.Lowest.{lowest};
-ghost use Rattle.problem.specs.Tables.{Tables, tables};
-ghost use Rattle.problem.specs.Sane.{Sane};
+ghost use Rattle.problem.specs.Tables.{boats};
 ghost use Rattle.problem.specs.Plans.{Plan};
-ghost use Rattle.questions.specs.Questions.{bad_slot, broken, broken_question};
+ghost use Rattle.tables.specs.Tests.{each};
+ghost use Rattle.tables.specs.Ways.{IsFirst};
+ghost use Rattle.questions.specs.Questions.{bad_slot, IsBroken, broken_question};
 ghost use Rattle.questions.specs.Replies.{broken_told};
 
-use crate::Broken;
 use problem::Refusal;
+use tables::FineTables;
 
-// The lowest boat whose slot is not below its size; the number of boats where there is none.
-fn first_bad_slot(sizes: &[u8], plan: &[u8]) -> usize
-    requires { length plan.now ≡ length sizes.now }
-    ensures { result ≡ lowest (length sizes.now) (bad_slot sizes.now plan.now) }
+// Each boat's slot is below its size; or the lowest boat whose slot is not.
+fn slots_inside(tables: &FineTables, plan: &[u8]) -> Result<(), Refusal>
+    requires { length plan.now ≡ boats tables.now }
+    ensures { IsFirst result (each 11 (boats tables.now) (bad_slot tables.now.sizes plan.now)) }
 {
-    let mut i: usize = 0;
-    while i < sizes.len() {
+    let sizes = tables.size_bytes();
+    for i in 0..sizes.len() {
         if sizes[i] <= plan[i] {
-            return i;
+            return Err(Refusal::GivenSlot(i));
         }
-        i += 1;
     }
-    i
+    Ok(())
 }
 
-// The lowest listed pair that a plan breaks; the number of pairs where it breaks none.
-fn lowest_broken(sizes: &[u8], pairs: &[u8], rows: &[u64], plan: &[u8]) -> usize
-    ghost t: { Tables }
-    requires rows_value { tables sizes.now pairs.now rows.now ≡ t }
-    requires sane { Sane t }
-    requires plan { Plan t plan.now }
-    ensures { result ≡ broken t plan.now }
+// The lowest listed pair that a plan breaks, if it breaks one.
+#[tactic(auto, using(crate::proofs::Keeping::row_inside, crate::proofs::Keeping::next_row, crate::proofs::Keeping::keeps_is))]
+fn lowest_broken(tables: &FineTables, plan: &[u8]) -> Option<usize>
+    requires { Plan tables.now plan.now }
+    ensures { IsBroken result tables.now plan.now }
 {
-    let count = pairs.len() / 2;
+    let rows = tables.row_words();
     let mut start: usize = 0;
-    let mut k: usize = 0;
-    while k < count {
-        let low = looks::lower_of(pairs, k);
-        let row = rows[start + looks::size_of(plan, low)];
-        if !looks::bit(row, looks::size_of(plan, looks::higher_of(pairs, k))) {
-            return k;
+    for k in 0..tables.pairs() {
+        let low = tables.lower(k);
+        let row = rows[start + usize::from(plan[low])];
+        if !looks::bit(row, usize::from(plan[tables.higher(k)])) {
+            return Some(k);
         }
-        start += looks::size_of(sizes, low);
-        k += 1;
+        start += tables.size(low);
     }
-    count
+    None
 }
 
 // What the examination leaves of the broken-pair question.
-pub fn broken_pair(sizes: &[u8], pairs: &[u8], rows: &[u64], plan: &[u8]) -> Broken
-    ghost t: { Tables }
-    requires rows_value { tables sizes.now pairs.now rows.now ≡ t }
-    requires sane { Sane t }
-    ensures { broken_told result ≡ broken_question t plan.now }
+#[tactic(auto, using(crate::proofs::Judging::judged_10, crate::proofs::Judging::judged_11, crate::proofs::Judging::planned, crate::proofs::Judging::judged_pair))]
+pub fn broken_pair(tables: &FineTables, plan: &[u8]) -> Result<Option<usize>, Refusal>
+    ensures { broken_told result ≡ broken_question tables.now plan.now }
 {
-    if plan.len() != sizes.len() {
-        return Broken::Refused(Refusal::GivenLength);
+    if plan.len() != tables.boats() {
+        return Err(Refusal::GivenLength);
     }
-    let boat = first_bad_slot(sizes, plan);
-    if boat < sizes.len() {
-        return Broken::Refused(Refusal::GivenSlot(boat));
-    }
-    let pair = lowest_broken(sizes, pairs, rows, plan);
-    if pair < pairs.len() / 2 {
-        Broken::Pair(pair)
-    } else {
-        Broken::Nowhere
-    }
+    slots_inside(tables, plan)?;
+    Ok(lowest_broken(tables, plan))
 }

@@ -9,71 +9,55 @@ ghost use Rattle.questions.specs.Replies.{judged_told, broken_told};
 mod given;
 
 use problem::Refusal;
-use tables::Examined;
-
-#[derive(Drop)]
-pub enum Judged {
-    Lawful,
-    Unlawful,
-    Refused(Refusal),
-}
-
-#[derive(Drop)]
-pub enum Broken {
-    Nowhere,
-    Pair(usize),
-    Refused(Refusal),
-}
-
-// Words from one place up to another.
-#[derive(Drop)]
-pub struct Part {
-    pub from: usize,
-    pub to: usize,
-}
+use std::ops::Range;
+use tables::FineTables;
 
 // Is the given plan lawful?
-pub fn is_lawful(sizes: &[u8], pairs: &[u8], rows: &[u64], plan: &[u8]) -> Judged
+#[tactic(auto, using(crate::proofs::Judging::refused_alike))]
+pub fn is_lawful(sizes: &[u8], pairs: &[u8], rows: &[u64], plan: &[u8]) -> Result<bool, Refusal>
     ensures { judged_told result ≡ lawful_question (tables sizes.now pairs.now rows.now) plan.now }
 {
-    match first_broken(sizes, pairs, rows, plan) {
-        Broken::Nowhere => Judged::Lawful,
-        Broken::Pair(_) => Judged::Unlawful,
-        Broken::Refused(why) => Judged::Refused(why),
-    }
+    let lawful = first_broken(sizes, pairs, rows, plan)?.is_none();
+    Ok(lawful)
 }
 
-// Which is the first listed pair that the given plan breaks?
-pub fn first_broken(sizes: &[u8], pairs: &[u8], rows: &[u64], plan: &[u8]) -> Broken
+// Which is the first listed pair that the given plan breaks, if it breaks one?
+#[tactic(auto, using(crate::proofs::Judging::refused_first))]
+pub fn first_broken(
+    sizes: &[u8],
+    pairs: &[u8],
+    rows: &[u64],
+    plan: &[u8],
+) -> Result<Option<usize>, Refusal>
     ensures { broken_told result ≡ broken_question (tables sizes.now pairs.now rows.now) plan.now }
 {
-    match tables::examine(sizes, pairs, rows) {
-        Examined::Refused(why) => Broken::Refused(why),
-        Examined::Fine(_) => given::broken_pair(sizes, pairs, rows, plan),
-    }
+    let tables = FineTables::new(sizes, pairs, rows)?;
+    given::broken_pair(&tables, plan)
 }
 
 // Where do the rows of two boats' pair stand?
-pub fn place_of_rows(sizes: &[u8], pairs: &[u8], rows: &[u64], lower: usize, higher: usize) -> Part
+pub fn place_of_rows(
+    sizes: &[u8],
+    pairs: &[u8],
+    rows: &[u64],
+    lower: usize,
+    higher: usize,
+) -> Range<usize>
     ensures { result ≡ rows_shown (tables sizes.now pairs.now rows.now) lower higher }
 {
-    match tables::examine(sizes, pairs, rows) {
-        Examined::Refused(_) => Part { from: 0, to: 0 },
-        Examined::Fine(p) => {
-            let pair = looks::place_of(pairs, lower, higher);
-            let count = p.pairs;
-            if pair < count {
-                let from = looks::start_of(sizes, pairs, pair);
-                let to = from + looks::size_of(sizes, lower);
-                Part { from, to }
-            } else {
-                Part { from: 0, to: 0 }
-            }
-        }
-    }
+    let Ok(tables) = FineTables::new(sizes, pairs, rows) else {
+        return 0..0;
+    };
+    let Some(pair) = tables.place(lower, higher) else {
+        return 0..0;
+    };
+    let from = tables.start(pair);
+    let to = from + tables.size(lower);
+    from..to
 }
 
 // The rows of two boats' pair, as a part of the caller's own words.
+#[tactic(auto, using(crate::proofs::Shown::shown_inside))]
 pub fn rows_of_pair<'a>(
     sizes: &[u8],
     pairs: &[u8],
@@ -84,7 +68,5 @@ pub fn rows_of_pair<'a>(
     ensures { result.now ≡ shown_rows (tables sizes.now pairs.now rows.now) lower higher }
 {
     let part = place_of_rows(sizes, pairs, rows, lower, higher);
-    let from = part.from;
-    let to = part.to;
-    &rows[from..to]
+    &rows[part.start..part.end]
 }

@@ -6,9 +6,13 @@ use Prim.Native.Nat.{ℕ, ◌≤◌}
 use native.Mathlib.Omega.{arith}
 use lib.ListN.{length, take, drop, length-append}
 use lib.Seq.{take_at}
+use Rattle.std.specs.Prelude.{Result as Judged}
+use Rattle.std.specs.Result.{IsErrAnd}
+use Rattle.std.proofs.lemmas.Result.{err_from_is_err_and}
 use Rattle.problem.specs.Tables.{Tables, tables, boats as boats_of}
-use Rattle.problem.specs.Replies.{Told, told, refusal_number, refusal_place}
+use Rattle.problem.specs.Replies.{Told, told, refusal_number, refusal_place, refusal_told}
 use Rattle.problem.specs.declared.Refusal.{Refusal}
+use Rattle.questions.specs.Replies.{judged_told}
 use Rattle.files.specs.Reading.{Reading, fault, read}
 use Rattle.files.specs.Rooms.{Rooms, too_small, covering, holding}
 use Rattle.files.specs.Reader.{Result, refused_result, unless_small, result_of}
@@ -27,6 +31,10 @@ refused_loaded ask (read t) m₀ why m e = by (too_small m₀ t) e
         → refused_result (refusal_number why) (refusal_place why) m ≡ unless_small b ask t m₀
     by true e = e
     by false e = absurd (omega (arith, ap (λ x. x.answer.number) e))
+
+-- a `?` passes it on
+pub passed_on : (r : Judged Bool Refusal) (why : Refusal) → IsErrAnd r (λ e. e ≡ why) → judged_told r ≡ refusal_told why
+passed_on r why is = let p = err_from_is_err_and r is in rw (p.1, p.2)
 
 -- ---- tables that stand in the lent memory
 pub record Standing (r : Reading) (m₀ : Rooms) (boats pair_bytes row_words : ℕ) (m : Rooms) : Type 0 where

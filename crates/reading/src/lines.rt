@@ -1,27 +1,55 @@
-// The places of a text where something starts.
-ghost use Rattle.std.specs.Prelude.{◌<◌, length};
+// The lines of a text.
+ghost use Rattle.std.specs.Prelude.{◌≡◌, [], ◌∷◌, length, MatchOption};
+ghost use Rattle.std.specs.Iterator.{at_most};
 
-// Past the next line feed, or where the text ends.
-pub fn next_line(text: &[u8], start: usize) -> usize
-    requires { start < length text.now }
-    ensures { start < result }
-{
-    let mut at = start;
-    while at < text.len() {
-        if text[at] == b'\n' {
-            return at + 1;
-        }
-        at += 1;
-    }
-    at
+use crate::Fields;
+use std::marker::Model;
+
+// A line's first byte says what it is; its fields come after it.
+#[derive(Drop)]
+pub struct Line<'a> {
+    pub kind: u8,
+    pub fields: Fields<'a>,
 }
 
-// The place after a mark; the same place where it does not stand there.
-pub fn past(text: &[u8], at: usize, mark: u8) -> usize {
-    if at < text.len() {
-        if text[at] == mark {
-            return at + 1;
-        }
+#[derive(Drop)]
+pub struct Lines<'a> {
+    left: &'a [u8],
+}
+
+impl<'a> Model for Lines<'a> {
+    ghost use Rattle.std.specs.Prelude.{List, ℕ};
+
+    ghost Value = { List ℕ };
+
+    ghost view = { λ lines. lines.left.now };
+}
+
+impl<'a> Lines<'a> {
+    pub fn new(text: &'a [u8]) -> Self
+        ensures { result ≡ text.now }
+    {
+        Lines { left: text }
     }
-    at
+}
+
+impl<'a> Iterator for Lines<'a> {
+    type Item = Line<'a>;
+
+    ghost next_gives = { λ left line after. MatchOption line (left ≡ []) (λ line. left ≡ line.kind ∷ line.fields) };
+
+    ghost remaining = { λ left. at_most (length left) };
+
+    fn next(&mut self) -> Option<Line<'a>> {
+        let (kind, fields) = self.left.split_first()?;
+        let end = self.left.iter().position(|byte| *byte == b'\n');
+        self.left = match end {
+            Some(end) => &self.left[end + 1..],
+            None => &[],
+        };
+        Some(Line {
+            kind: *kind,
+            fields: Fields::new(fields),
+        })
+    }
 }

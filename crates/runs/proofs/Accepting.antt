@@ -14,8 +14,7 @@ use Rattle.problem.specs.Methods.{method_numbered}
 use Rattle.problem.specs.Replies.{Told}
 use Rattle.problem.specs.declared.Allowance.TheVariants.{Checks, Trials}
 use Rattle.problem.specs.declared.Method.{Method}
-use Rattle.problem.specs.declared.MethodFound.{MethodFound}
-use Rattle.problem.specs.declared.MethodFound.TheVariants.{Found, NotFound}
+use Rattle.std.specs.Prelude.{Option, Some, None}
 use Rattle.tables.specs.Tests.{Test, once}
 use Rattle.tables.specs.Applies.{NoneApplies, none, nor}
 use Rattle.tables.specs.Examination.{tests, Fine}
@@ -33,7 +32,7 @@ use Rattle.runs.proofs.Refusing.{unknown_refused, says_nothing, result_finished}
 -- ---- the whole input of a run, with no test that applies
 pub record Accepted (method : ℕ) (t : Tables) (plan work : List ℕ) (checks trials : ℕ) : Type 0 where
   pub chosen : Method
-  pub known : method_numbered method ≡ Found chosen
+  pub known : method_numbered method ≡ Some chosen
   pub fine : Fine t
   pub plan_room : boats t ≤ length plan
   pub work_room : 8192 ≤ length work
@@ -46,9 +45,9 @@ module _ (method : ℕ) (t : Tables) (plan work : List ℕ) (checks trials : ℕ
   pub accepted : NoneApplies (run_tests method t (length plan) (length work)) → Accepted method t plan work checks trials
   accepted (nor one later) = let m = none_parts (tests t) _ later in by (method_numbered method) refl m.0 m.1
     where
-      by : (x : MethodFound) → method_numbered method ≡ x → NoneApplies (tests t) → NoneApplies (once 8 (ltb (length plan) (boats t)) ∷ once 9 (ltb (length work) 8192) ∷ []) →
+      by : (x : Option Method) → method_numbered method ≡ x → NoneApplies (tests t) → NoneApplies (once 8 (ltb (length plan) (boats t)) ∷ once 9 (ltb (length work) 8192) ∷ []) →
           Accepted method t plan work checks trials
-      by (Found chosen) e n (nor eight (nor nine none)) =
+      by (Some chosen) e n (nor eight (nor nine none)) =
           record {
             chosen = chosen;
             known = e;
@@ -56,7 +55,7 @@ module _ (method : ℕ) (t : Tables) (plan work : List ℕ) (checks trials : ℕ
             plan_room = ltb-false _ _ (eight 0 (omega arith));
             work_room = ltb-false _ _ (nine 0 (omega arith));
           }
-      by NotFound e n m =
+      by None e n m =
           let p = unknown_refused method e in
           let q = one 0 (omega arith) in
           let z : ◌≡◌ {A = ℕ} 0 1 = cc in
@@ -64,12 +63,12 @@ module _ (method : ℕ) (t : Tables) (plan work : List ℕ) (checks trials : ℕ
 
 -- the same tables, under any of the five methods and any allowances, in other memory that is long enough
 abbrev pub elsewhere : {method other : ℕ} {t : Tables} {plan work plan' work' : List ℕ} {checks trials checks' trials' : ℕ} {chosen : Method} →
-    Accepted method t plan work checks trials → method_numbered other ≡ Found chosen → boats t ≤ length plan' → 8192 ≤ length work' → Accepted other t plan' work' checks' trials'
+    Accepted method t plan work checks trials → method_numbered other ≡ Some chosen → boats t ≤ length plan' → 8192 ≤ length work' → Accepted other t plan' work' checks' trials'
 elsewhere {chosen = chosen} a k p w = record { chosen = chosen; known = k; fine = a.fine; plan_room = p; work_room = w }
 
 -- the same run, by the method that is known to have its number
 abbrev pub under : {method : ℕ} {t : Tables} {plan work : List ℕ} {checks trials : ℕ} {chosen : Method} →
-    Accepted method t plan work checks trials → method_numbered method ≡ Found chosen → Accepted method t plan work checks trials
+    Accepted method t plan work checks trials → method_numbered method ≡ Some chosen → Accepted method t plan work checks trials
 under a k = elsewhere a k a.plan_room a.work_room
 
 -- ---- what an answer tells of the decision

@@ -2,25 +2,19 @@
 use mathlib.Core.Path.{◌≡◌, refl, sym, ap, ◌∙◌, subst}
 use mathlib.Core.Bool.{Bool, true, false}
 use mathlib.Core.List.{List, [], ◌∷◌, ◌++◌}
-use Prim.Native.Nat.{ℕ, zero, suc, ◌+◌, ◌≤◌, ◌<◌}
+use Prim.Native.Nat.{ℕ, zero, suc, ◌≤◌, ◌<◌}
 use native.Mathlib.Omega.{arith}
 use borrow.Author.Tests.{lt-ltb, le-ltb, ne_eqb}
 use lib.Dec.{ltb, eqb}
 use lib.ListN.{length}
 use Rattle.problem.specs.Tables.{Tables, boats}
 use Rattle.problem.specs.Methods.{method_numbered}
-use Rattle.problem.specs.Replies.{Told, told, refused, refusal_told}
-use Rattle.problem.specs.declared.Problem.{Problem}
-use Rattle.problem.specs.declared.Refusal.{Refusal}
+use Rattle.problem.specs.Replies.{Told, told, refused}
 use Rattle.problem.specs.declared.Method.{Method}
-use Rattle.problem.specs.declared.MethodFound.{MethodFound}
-use Rattle.problem.specs.declared.MethodFound.TheVariants.{Found, NotFound}
+use Rattle.std.specs.Prelude.{Option, Some, None}
 use Rattle.tables.specs.Tests.{Test, once, first_of}
 use Rattle.tables.specs.Examination.{tests, examination, Fine}
 use Rattle.tables.specs.Applies.{Gives}
-use Rattle.tables.specs.Replies.{examined_told}
-use Rattle.tables.specs.declared.Examined.{Examined}
-use Rattle.tables.specs.declared.Examined.TheVariants.{Fine as FoundFine, Refused}
 use Rattle.tables.proofs.Examining.{once_applies, once_passes}
 use Rattle.tables.proofs.Laws.{gives_first, large_gives, after_none, gives_before, fine_none}
 use Rattle.events.specs.Allowances.{cut}
@@ -29,9 +23,9 @@ use Rattle.runs.specs.Runs.{not_one_to_five, lent_tests, refusal_of_run, Result,
 use Rattle.runs.specs.Lent.{lent_refusal, lent_result}
 
 -- ---- number 1: a method number is refused where it is no method's, and only there
-abbrev nobodys : MethodFound → Bool
-nobodys (Found chosen) = false
-nobodys NotFound = true
+abbrev nobodys : Option Method → Bool
+nobodys (Some chosen) = false
+nobodys None = true
 
 refused_nobodys : (n : ℕ) → not_one_to_five n ≡ nobodys (method_numbered n)
 refused_nobodys zero = refl
@@ -44,19 +38,11 @@ refused_nobodys (suc (suc (suc (suc (suc (suc n)))))) =
     let m = suc (suc (suc (suc (suc (suc n))))) in
     rw (ne_eqb m 0 (λ z. omega arith), lt-ltb 5 m (omega arith))
 
-known_passes : (n : ℕ) (chosen : Method) → method_numbered n ≡ Found chosen → not_one_to_five n ≡ false
+known_passes : (n : ℕ) (chosen : Method) → method_numbered n ≡ Some chosen → not_one_to_five n ≡ false
 known_passes n chosen e = refused_nobodys n ∙ ap nobodys e
 
-pub unknown_refused : (n : ℕ) → method_numbered n ≡ NotFound → not_one_to_five n ≡ true
+pub unknown_refused : (n : ℕ) → method_numbered n ≡ None → not_one_to_five n ≡ true
 unknown_refused n e = refused_nobodys n ∙ ap nobodys e
-
--- what the examination found
-module _ (t : Tables) {x : Examined} (says : examined_told x ≡ examination t) where
-  pub found_fine : {p : Problem} → x ≡ FoundFine p → Fine t
-  found_fine e = sym (ap (λ (r : Told). r.number) says) ∙ ap (λ (y : Examined). (examined_told y).number) e
-
-  pub found_refused : {why : Refusal} → x ≡ Refused why → refusal_told why ≡ examination t
-  found_refused e = ap examined_told (sym e) ∙ says
 
 -- ---- the lent memory: 8, then 9
 module _ (t : Tables) (plan_bytes work_words : ℕ) where
@@ -94,11 +80,11 @@ module _ (method : ℕ) (t : Tables) (plan_bytes work_words : ℕ) where
   abbrev memory : List Test
   memory = lent_tests t plan_bytes work_words
 
-  pub says_1 : method_numbered method ≡ NotFound → refusal_of_run method t plan_bytes work_words ≡ refused 1 0
+  pub says_1 : method_numbered method ≡ None → refusal_of_run method t plan_bytes work_words ≡ refused 1 0
   unfolding refusal_of_run
   says_1 e = once_applies 1 (not_one_to_five method) (tests t ++ memory) (told 0 []) (unknown_refused method e)
 
-  module _ (chosen : Method) (known : method_numbered method ≡ Found chosen) where
+  module _ (chosen : Method) (known : method_numbered method ≡ Some chosen) where
     past_1 : refusal_of_run method t plan_bytes work_words ≡ first_of (tests t ++ memory) (told 0 [])
     unfolding refusal_of_run
     past_1 = once_passes 1 (not_one_to_five method) (tests t ++ memory) (told 0 []) (known_passes method chosen known)
@@ -126,19 +112,19 @@ module _ (method : ℕ) (t : Tables) (plan work : List ℕ) (checks trials : ℕ
       ap (λ (x : Told). unless_refused (eqb x.number 0) (finished_by (method_numbered method) t plan work checks trials) (refused_result x plan work)) e
       ∙ ap (λ (b : Bool). unless_refused b (finished_by (method_numbered method) t plan work checks trials) (refused_result w plan work)) (ne_eqb w.number 0 (λ z. omega arith))
 
-  pub result_finished : (chosen : Method) → method_numbered method ≡ Found chosen → refusal_of_run method t (length plan) (length work) ≡ told 0 [] →
+  pub result_finished : (chosen : Method) → method_numbered method ≡ Some chosen → refusal_of_run method t (length plan) (length work) ≡ told 0 [] →
       run_result method t plan work checks trials ≡ finished_result (cut checks trials (search_by chosen t)) plan work
   unfolding run_result
   result_finished chosen k e =
       ap (λ (x : Told). unless_refused (eqb x.number 0) (finished_by (method_numbered method) t plan work checks trials) (refused_result x plan work)) e
-      ∙ ap (λ (x : MethodFound). finished_by x t plan work checks trials) k
+      ∙ ap (λ (x : Option Method). finished_by x t plan work checks trials) k
 
   -- on fine tables the lent memory decides
-  pub result_lent : (chosen : Method) → method_numbered method ≡ Found chosen → Fine t → lent_result chosen t plan work checks trials ≡ run_result method t plan work checks trials
+  pub result_lent : (chosen : Method) → method_numbered method ≡ Some chosen → Fine t → lent_result chosen t plan work checks trials ≡ run_result method t plan work checks trials
   unfolding run_result lent_result
   result_lent chosen k fine =
       let w = lent_refusal t (length plan) (length work) in
-      ap (λ (x : MethodFound). unless_refused (eqb w.number 0) (finished_by x t plan work checks trials) (refused_result w plan work)) (sym k)
+      ap (λ (x : Option Method). unless_refused (eqb w.number 0) (finished_by x t plan work checks trials) (refused_result w plan work)) (sym k)
       ∙ ap (λ (x : Told). unless_refused (eqb x.number 0) (finished_by (method_numbered method) t plan work checks trials) (refused_result x plan work))
       (sym (says_lent method t (length plan) (length work) chosen k fine))
 
@@ -147,12 +133,12 @@ abbrev pub but_words : Result → Result
 but_words r = record { answer = r.answer; checks = r.checks; trials = r.trials; plan = r.plan; work = [] }
 
 module _ (method : ℕ) (t : Tables) (plan work work' : List ℕ) (checks trials : ℕ) where
-  abbrev leaving : Bool → MethodFound → Told → List ℕ → Result
+  abbrev leaving : Bool → Option Method → Told → List ℕ → Result
   leaving fine found w words = but_words (unless_refused fine (finished_by found t plan words checks trials) (refused_result w plan words))
 
-  by_length : (fine : Bool) (found : MethodFound) (w : Told) → leaving fine found w work' ≡ leaving fine found w work
-  by_length true (Found chosen) w = refl
-  by_length true NotFound w = refl
+  by_length : (fine : Bool) (found : Option Method) (w : Told) → leaving fine found w work' ≡ leaving fine found w work
+  by_length true (Some chosen) w = refl
+  by_length true None w = refl
   by_length false found w = refl
 
   abbrev refusal : Bool → Told

@@ -14,7 +14,7 @@ use Rattle.problem.specs.Plans.{First, NoPlan}
 use Rattle.problem.specs.Methods.{method_numbered}
 use Rattle.problem.specs.Replies.{Told, told}
 use Rattle.problem.specs.declared.Method.{Method}
-use Rattle.problem.specs.declared.MethodFound.TheVariants.{Found}
+use Rattle.std.specs.Prelude.{Some}
 use Rattle.problem.proofs.Plans.{first_unique}
 use Rattle.tables.specs.Tests.{Test, first_of}
 use Rattle.tables.specs.Applies.{NoneApplies, Gives}
@@ -50,7 +50,7 @@ module _ (method : ℕ) (t : Tables) (plan work : List ℕ) (checks trials : ℕ
   run_refuses_first why g = result_refused method t plan work checks trials (gives_first all (told 0 []) why g) (gives_refused all why g)
 
   -- where none applies the method's search is made, cut by the allowances
-  pub run_searches : NoneApplies all → (chosen : Method) → method_numbered method ≡ Found chosen → reply ≡ finished_result (cut checks trials (search_by chosen t)) plan work
+  pub run_searches : NoneApplies all → (chosen : Method) → method_numbered method ≡ Some chosen → reply ≡ finished_result (cut checks trials (search_by chosen t)) plan work
   run_searches n chosen known = searches (under (accepts n) known)
 
   -- and such a run is not refused
@@ -114,7 +114,7 @@ module _ (method : ℕ) (t : Tables) (plan work : List ℕ) (checks trials : ℕ
       means a (ap (λ (o : Outcome). o.decision) (outcome_is a z))
 
   -- the events of the method's own search
-  module _ (chosen : Method) (known : method_numbered method ≡ Found chosen) where
+  module _ (chosen : Method) (known : method_numbered method ≡ Some chosen) where
     abbrev own : Search
     own = search_by chosen t
 
@@ -197,7 +197,7 @@ module _ (t : Tables) (plan work plan' work' : List ℕ) (plan_room : boats t �
       }
 
   -- what the plain method decides the other decides too, with the same answer and bytes, and no more checks or trials
-  pub run_saves_only : {quicker slower : Method} → Saves quicker slower → (plain other : ℕ) → method_numbered plain ≡ Found slower → method_numbered other ≡ Found quicker →
+  pub run_saves_only : {quicker slower : Method} → Saves quicker slower → (plain other : ℕ) → method_numbered plain ≡ Some slower → method_numbered other ≡ Some quicker →
       let slow = run_result plain t plan work checks trials in
       let quick = run_result other t plan' work' checks trials in
       slow.answer.number < 2 → Alike t plan work slow plan' work' quick × (quick.checks ≤ slow.checks) × (quick.trials ≤ slow.trials)

@@ -9,7 +9,7 @@ use Rattle.problem.specs.Tables.{Tables, boats, start}
 use Rattle.problem.specs.Methods.{method_numbered}
 use Rattle.problem.specs.declared.Method.{Method}
 use Rattle.problem.specs.declared.Method.TheVariants.{Bt, Cbj, Bm, Fc, FcCbj}
-use Rattle.problem.specs.declared.MethodFound.TheVariants.{Found}
+use Rattle.std.specs.Prelude.{Some}
 use Rattle.tables.specs.Tests.{first_of}
 use Rattle.tables.specs.Examination.{first_way_bad, bad_word, pair_of_word, examination, Fine}
 use Rattle.events.specs.Events.{no_plan}
@@ -37,7 +37,7 @@ module _ (work : List ℕ) (room : 8192 ≤ length work) where
   abbrev promised : (method : ℕ) → Tables → Result
   promised method t = run_result method t bytes work ample ample
 
-  is : (method : ℕ) (chosen : Method) (t : Tables) (o : Outcome) → method_numbered method ≡ Found chosen → Fine t → boats t ≤ 3 → cut ample ample (search_by chosen t) ≡ o → promised method t ≡ finished_result o bytes work
+  is : (method : ℕ) (chosen : Method) (t : Tables) (o : Outcome) → method_numbered method ≡ Some chosen → Fine t → boats t ≤ 3 → cut ample ample (search_by chosen t) ≡ o → promised method t ≡ finished_result o bytes work
   is method chosen t o k f l e =
       searches (record { chosen = chosen; known = k; fine = f; plan_room = l; work_room = room }) ∙ ap (λ (x : Outcome). finished_result x bytes work) e
 
@@ -70,7 +70,7 @@ module _ (work : List ℕ) (room : 8192 ≤ length work) where
   copies_a_slot r n e = omega (arith, n, ap (λ (x : Result). get_or x.plan 0 0) (e ∙ on_e), ap (λ (x : Result). get_or x.plan 1 0) (e ∙ on_e))
 
   -- one that runs plain BT under every number: BT makes 3 checks here, and each of the other four makes 2. (BM's trials are as many as BT's)
-  plain_under : (method : ℕ) (chosen : Method) (made : ℕ) → method_numbered method ≡ Found chosen → cut ample ample (search_by chosen E) ≡ outcome plan_of_e 2 made → promised 1 E ≡ promised method E → ⊥
+  plain_under : (method : ℕ) (chosen : Method) (made : ℕ) → method_numbered method ≡ Some chosen → cut ample ample (search_by chosen E) ≡ outcome plan_of_e 2 made → promised 1 E ≡ promised method E → ⊥
   plain_under method chosen made k c e = omega (arith, ap (λ (x : Result). x.checks) (sym on_e ∙ e ∙ is method chosen E _ k fine_e (omega arith) c))
 
   pub plain_under_2 : promised 1 E ≡ promised 2 E → ⊥

@@ -1,12 +1,11 @@
 -- THE PROMISE OF `run`: for every input the whole reply, every byte of the plan memory and every working word.
 -- (Document 01, 'Numbers given back' and 'Counting'.)
-use Rattle.std.specs.Prelude.{Bool, true, false, ◌||◌, List, [], ◌∷◌, ◌++◌, ℕ, ltb, eqb, length, drop}
+use Rattle.std.specs.Prelude.{Bool, true, false, ◌||◌, List, [], ◌∷◌, ◌++◌, ℕ, ltb, eqb, length, drop, Option, Some, None}
 use Rattle.problem.specs.Tables.{Tables, boats}
 use Rattle.problem.specs.Methods.{method_numbered}
 use Rattle.problem.specs.Replies.{Told, told, refused, answer_told}
 use Rattle.problem.specs.declared.Allowance.TheVariants.{Checks, Trials}
-use Rattle.problem.specs.declared.MethodFound.{MethodFound}
-use Rattle.problem.specs.declared.MethodFound.TheVariants.{Found, NotFound}
+use Rattle.problem.specs.declared.Method.{Method}
 use Rattle.problem.specs.declared.Reply.{Reply}
 use Rattle.tables.specs.Tests.{Test, once, first_of}
 use Rattle.tables.specs.Examination.{tests}
@@ -69,9 +68,9 @@ finished_result o plan work =
     }
 
 -- the method's search, cut by the allowances. (No number but the five is a method: number 1 has refused it)
-abbrev pub finished_by : MethodFound → Tables → (plan work : List ℕ) → (checks trials : ℕ) → Result
-finished_by (Found chosen) t plan work checks trials = finished_result (cut checks trials (search_by chosen t)) plan work
-finished_by NotFound t plan work checks trials = refused_result (refused 1 0) plan work
+abbrev pub finished_by : Option Method → Tables → (plan work : List ℕ) → (checks trials : ℕ) → Result
+finished_by (Some chosen) t plan work checks trials = finished_result (cut checks trials (search_by chosen t)) plan work
+finished_by None t plan work checks trials = refused_result (refused 1 0) plan work
 
 abbrev pub unless_refused : (fine : Bool) → (finished refusal : Result) → Result
 unless_refused true finished refusal = finished

@@ -7,15 +7,21 @@ use native.Mathlib.Numerals.{add-one}
 use native.Mathlib.Omega.{arith}
 use borrow.Author.Tests.{ltb-true, ltb-false, le-leb, lt-leb, eq-eqb, ne_eqb}
 use lib.Dec.{ltb, leb, eqb}
+use lib.Pointwise.{pointwise}
 use lib.ListN.{length, get_or, take, drop, length-append, length-drop, drop_of_length-le}
 use lib.Seq.{length-take-le, drop-cons, drop-drop, get_or-take, get_or-drop}
+use Rattle.std.proofs.Common.{Option, Result}
+use Rattle.std.specs.Result.{IsErrAnd}
+use Rattle.std.proofs.lemmas.Result.{err_from_is_err_and}
 use Rattle.problem.specs.Tables.{Tables, boats, size, listed}
-use Rattle.problem.specs.Replies.{refused}
+use Rattle.problem.specs.Replies.{refused, refusal_told}
+use Rattle.problem.specs.declared.Problem.{Problem}
+use Rattle.problem.specs.declared.Refusal.{Refusal}
 use Rattle.files.specs.Bytes.{number, words_of}
 use Rattle.files.specs.File.{SZ, PR, ED}
 use Rattle.files.specs.Reading.{fault, read, sizes_due, pairs_due, Rest, next, refuse, over, end, refuse_if, sizes_rest, words_rest, pair_rest, end_rest, due, same, after_mark, marked, read_rest, read_from, sized, nothing, reading}
-use Rattle.scanning.specs.Replies.{reading_told}
-use Rattle.scanning.specs.Scanning.{SoFar, GoesOn}
+use Rattle.scanning.specs.Replies.{reading_told, contents_told}
+use Rattle.scanning.specs.Scanning.{SoFar, GoesOn, Meets}
 use Rattle.files.proofs.Bytes.{words_length}
 use Rattle.files.proofs.Onward.{short, enough, Wants, after_bytes, goes_on_lem, ends, from_is}
 use Rattle.files.proofs.Records.{one_byte}
@@ -54,19 +60,22 @@ module _ (file : List ℕ) where
       ∙ ap (λ i. get_or file at 0 ∷ get_or file i 0 ∷ []) (sym (add-one at))
 
 -- ---- the mark
-same_two : (x y first second : ℕ) → same (x ∷ y ∷ []) (first ∷ second ∷ []) ≡ (eqb x first && eqb y second)
+pub mark_tested : (xs ys : List ℕ) → pointwise eqb xs ys ≡ same xs ys
 unfolding same
-same_two x y first second = by (eqb x first) (eqb y second)
-  where
-    by : (a b : Bool) → (a && (b && true)) ≡ (a && b)
-    by true true = refl
-    by true false = refl
-    by false b = refl
+mark_tested [] [] = refl
+mark_tested [] (y ∷ ys) = refl
+mark_tested (x ∷ xs) [] = refl
+mark_tested (x ∷ xs) (y ∷ ys) = ap (λ b. eqb x y && b) (mark_tested xs ys)
 
-pub mark_tested : (file : List ℕ) (at first second x y : ℕ) → at + 2 ≤ length file → x ≡ get_or file at 0 → y ≡ get_or file (at + 1) 0
-    → (eqb x first && eqb y second) ≡ same (take 2 (drop at file)) (first ∷ second ∷ [])
-mark_tested file at first second x y l p q =
-    ap₂ (λ a b. eqb a first && eqb b second) p q ∙ sym (ap (λ mark. same mark (first ∷ second ∷ [])) (two_taken file at l) ∙ same_two _ _ first second)
+-- ---- a fault that a `?` passes on
+pub fault_told : (r : Result Problem Refusal) {found why : Refusal} → IsErrAnd r (λ e. e ≡ found) → found ≡ why → contents_told r ≡ refusal_told why
+fault_told r e is = let p = err_from_is_err_and r e in rw (p.1, p.2, is)
+
+pub fault_met : (file : List ℕ) (boats at pairs : ℕ) (r : Result (Option ℕ) Refusal) {found why : Refusal}
+    → IsErrAnd r (λ e. e ≡ found) → found ≡ why
+    → ((words : ℕ) (t : Tables) → SoFar file boats pairs words t → reading_told (read_from at pairs_due t (drop at file)) ≡ refusal_told why)
+    → Meets file boats at pairs r
+fault_met file boats at pairs r e is told_so = let p = err_from_is_err_and r e in rw (p.1, p.2, is) told_so
 
 mark_pr : (mark : List ℕ) (t : Tables) → same mark PR ≡ true → after_mark mark (due pairs_due) t ≡ pair_rest t
 unfolding after_mark

@@ -1,12 +1,11 @@
 -- What the first pass knows where a PR or the ED is due.
-use Rattle.std.specs.Prelude.{◌≡◌, List, [], ◌∷◌, ◌++◌, ℕ, ◌+◌, ◌*◌, ◌≤◌, length, get_or, take, drop}
+use Rattle.std.specs.Prelude.{◌≡◌, Option, Some, None, Result, Ok, Err, List, [], ◌∷◌, ◌++◌, ℕ, ◌+◌, ◌*◌, ◌≤◌, length, get_or, take, drop}
 use Rattle.problem.specs.Tables.{Tables}
 use Rattle.files.specs.Bytes.{words_of}
 use Rattle.files.specs.Reading.{Reading, read, sized, pairs_due, read_from}
 use Rattle.problem.specs.Replies.{refusal_told}
 use Rattle.scanning.specs.Replies.{reading_told}
-use Rattle.scanning.specs.declared.Met.{Met}
-use Rattle.scanning.specs.declared.Met.TheVariants.{Pair, End, Refused}
+use Rattle.problem.specs.declared.Refusal.{Refusal}
 
 -- tables read so far: the sizes stand after the first three bytes, and there are so many pairs and row words
 pub record SoFar (file : List ℕ) (boats pairs words : ℕ) (t : Tables) : Type 0 where
@@ -26,10 +25,11 @@ pub record PairMet (file : List ℕ) (boats at pairs slots : ℕ) : Type 0 where
   pub inside : at + (4 + 8 * slots) ≤ length file
   pub goes_on : (words : ℕ) (t : Tables) → SoFar file boats pairs words t → GoesOn file boats at pairs slots words t
 
-abbrev pub Meets : List ℕ → (boats at pairs : ℕ) → Met → Type 0
-Meets file boats at pairs (Pair slots) = PairMet file boats at pairs slots
-Meets file boats at pairs End = (words : ℕ) (t : Tables) → SoFar file boats pairs words t → read_from at pairs_due t (drop at file) ≡ read t
-Meets file boats at pairs (Refused why) =
+-- a PR by its slots, none for the ED, or a fault
+abbrev pub Meets : List ℕ → (boats at pairs : ℕ) → Result (Option ℕ) Refusal → Type 0
+Meets file boats at pairs (Ok (Some slots)) = PairMet file boats at pairs slots
+Meets file boats at pairs (Ok None) = (words : ℕ) (t : Tables) → SoFar file boats pairs words t → read_from at pairs_due t (drop at file) ≡ read t
+Meets file boats at pairs (Err why) =
     (words : ℕ) (t : Tables) → SoFar file boats pairs words t → reading_told (read_from at pairs_due t (drop at file)) ≡ refusal_told why
 
 -- ---- what is read from the first mark after SZ on

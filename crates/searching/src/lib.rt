@@ -2,33 +2,22 @@
 #![tactic(auto)]
 
 ghost use Rattle.std.specs.Prelude.{◌≡◌, ◌≤◌, length};
-ghost use Rattle.problem.specs.Tables.{Tables, tables};
-ghost use Rattle.problem.specs.Sane.{Sane};
 ghost use Rattle.events.specs.Counts.{Fits};
 ghost use Rattle.words.specs.Places.{used};
 ghost use Rattle.searching.specs.Searched.{Searched};
 
 use ends::Ended;
 use events::Counts;
-use moves::Moves;
+use moving::Moving;
+use tables::FineTables;
 
 // The words are cleared first.
-pub fn search(
-    moves: Moves,
-    sizes: &[u8],
-    pairs: &[u8],
-    rows: &[u64],
-    start: Counts,
-    work: &mut [u64],
-) -> Ended
-    ghost t: { Tables }
-    requires rows_value { tables sizes.now pairs.now rows.now ≡ t }
-    requires sane { Sane t }
+pub fn search<M: Moving>(tables: &FineTables, start: Counts, work: &mut [u64]) -> Ended
     requires used_in_bounds { used ≤ length work.old }
     requires fits { Fits start }
-    ensures { Searched moves t work.old start work.new result }
+    ensures { Searched M.moves tables.now work.old start work.new result }
 {
     words::clear(work);
-    moves::prepare(moves, sizes, pairs, rows, work);
-    walk::walk(moves, sizes, pairs, rows, 0, 0, start, work)
+    M::prepare(tables, work);
+    walk::walk::<M>(tables, 0, 0, start, work)
 }

@@ -3,9 +3,8 @@
 
 ghost use Rattle.std.specs.Prelude.{◌≡◌, ◌≤◌, ◌<◌, length};
 ghost use Rattle.words.specs.Places.{used};
-ghost use Rattle.storing.specs.Stored.{passed_words, set_stored, kept_words, set_begun_with};
+ghost use Rattle.storing.specs.Stored.{passed_words, set_stored, set_begun_with};
 
-use moves::Moves;
 use visits::Backward;
 use words::Words;
 
@@ -36,16 +35,4 @@ pub fn store_passed(i: usize, slot: u64, members: u64, work: &mut [u64])
     work[i] = slot;
     work[Words::SETS + i] = members;
     work[Words::NEXT_SET + i] = 0;
-}
-
-// The run has ended at a slot of boat i, with this set in hand.
-pub fn keep_set(moves: Moves, i: usize, set: u64, work: &mut [u64])
-    requires { (i < 64) × (used ≤ length work.old) }
-    ensures { work.new ≡ kept_words moves work.old i set }
-{
-    match moves {
-        Moves::LookingBack(_) => store_set(i, set, work),
-        Moves::Marking => {}
-        Moves::LookingAhead(_) => store_set(i, set, work),
-    }
 }

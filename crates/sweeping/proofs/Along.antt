@@ -10,8 +10,8 @@ use native.Mathlib.Decide.{dec_lt}
 use native.Mathlib.Nat.{le_refl}
 use lib.ListN.{length, take}
 use lib.Seq.{length-take-le}
-use Rattle.problem.specs.Tables.{Tables, boats, listed, higher, is_listed, start, bit}
-use Rattle.problem.proofs.Starts.{start_mono}
+use Rattle.problem.specs.Tables.{Tables, boats, size, listed, higher, is_listed, start, bit}
+use Rattle.problem.proofs.Starts.{start_within, start_few}
 use Rattle.events.specs.Events.{Event, trials_of, trials}
 use Rattle.events.specs.declared.Counts.{Counts}
 use Rattle.events.specs.Counts.{Fits, Makes}
@@ -19,21 +19,25 @@ use Rattle.events.proofs.Leading.{makes_none, makes_eq}
 use Rattle.methods.specs.Choices.{may_stand}
 use Rattle.methods.specs.FC.{Swept}
 use Rattle.methods.specs.ByPlan.{open_sweep}
-use Rattle.words.specs.Places.{live_at, blames}
+use Rattle.words.specs.Places.{prev_at, live_at, blames}
 use Rattle.words.specs.Layout.{word, ChangedOnly, first_pair}
 use Rattle.words.proofs.Firsts.{first_le, first_same}
 use Rattle.words.proofs.Pairs.{pair_listed, listed_pair}
-use Rattle.words.proofs.Chains.{left_own}
+use Rattle.words.proofs.Chains.{left_own, prev_own}
+use Rattle.words.proofs.Lefts.{left_before}
 use Rattle.words.proofs.ChangedOnly.{only_refl}
 use Rattle.live_words.specs.Lives.{left_word}
 use Rattle.sweeping.specs.Sweeps.{Sweepable, Owns, sweep_of, SweepsClear}
 use Rattle.sweeping.specs.declared.Own.{Own}
 use Rattle.sweeping.proofs.Sweeping.{behind, sweep_past, sweep_end}
 
--- before pair k, whose row is word `at`: from the words w₀ and the counts m to w and n, with the boats below `next` gone over
+-- before pair k, whose row is word `at`: from the words w₀ and the counts m to w and n, with the boats below `next` gone over. (Where the boat's rows end, and where the words before stand, is said of each pair, so that each index is seen to be within bounds.)
 pub record Along (t : Tables) (w₀ : List ℕ) (i a : ℕ) (m : Counts) (w : List ℕ) (k at : ℕ) (n : Counts) : Type 0 where
   pub from : first_pair t.pairs i ≤ k
+  pub few : first_pair t.pairs (suc i) ≤ 2016
   pub place : at ≡ start t.sizes t.pairs k + a
+  pub in_rows : (q : ℕ) → first_pair t.pairs i ≤ q → q < first_pair t.pairs (suc i) → start t.sizes t.pairs q + a < length t.rows
+  pub before : (q : ℕ) → first_pair t.pairs i ≤ q → q < first_pair t.pairs (suc i) → word w (prev_at q) < live_at (first_pair t.pairs i)
   pub next : ℕ
   pub within : next ≤ boats t
   pub gone : (q : ℕ) → first_pair t.pairs i ≤ q → q < k → higher t.pairs q < next
@@ -50,12 +54,24 @@ module _ {t : Tables} {w₀ : List ℕ} {i a : ℕ} (g : Sweepable t w₀ i a) w
   pub plan_long : length (take i w₀) ≡ i
   plan_long = length-take-le i w₀ (omega (arith, g.sane.few_boats, g.boat, g.room))
 
+  -- ---- at one of the boat's own pairs: its row lies within the rows, and the word before it stands below those of the boat
+  module _ (q : ℕ) (lo : first_pair t.pairs i ≤ q) (hi : q < first_pair t.pairs (suc i)) where
+    is : q < listed t.pairs
+    is = pair_listed t.pairs g.sane.rising i q lo hi
+
+    row_in : start t.sizes t.pairs q + a < length t.rows
+    row_in =
+        omega (arith, ap (size t.sizes) (first_same t.pairs g.sane.rising i q lo hi), start_within t.sizes t.pairs q is, g.sane.row_words, g.slot)
+
+    prev_below : word w₀ (prev_at q) < live_at (first_pair t.pairs i)
+    prev_below =
+        omega (arith, prev_own t g.sane g.chained i q lo hi, left_before t g.sane i i (higher t.pairs q) (le_refl i) (g.sane.boats_named q is))
+
   -- ---- at the first of the boat's own pairs
   module _ {own : Own} (o : Owns t i own) where
-    -- the first row lies within the rows, or the boat has no pair
-    pub row_within : own.row ≤ length t.rows
-    row_within =
-        rw (o.row, g.sane.row_words) (start_mono t.sizes t.pairs (first_pair t.pairs i) (listed t.pairs) (first_le t.pairs i))
+    pub row_few : own.row + a < 129088
+    row_few =
+        omega (arith, o.row, start_few t g.sane (first_pair t.pairs i) (first_le t.pairs i), first_le t.pairs i, g.sane.few_pairs, g.sane.few_slots i g.boat, g.slot)
 
     pub begins : (m : Counts) → Fits m → Along t w₀ i a m w₀ own.first (own.row + a) m
     unfolding trials_of
@@ -63,7 +79,10 @@ module _ {t : Tables} {w₀ : List ℕ} {i a : ℕ} (g : Sweepable t w₀ i a) w
         rw o.first
         (record {
           from = le_refl _;
+          few = omega (arith, first_le t.pairs (suc i), g.sane.few_pairs);
           place = ap (λ (x : ℕ). x + a) o.row;
+          in_rows = row_in;
+          before = prev_below;
           next = suc i;
           within = g.boat;
           gone = λ q lo hi. absurd (omega arith);

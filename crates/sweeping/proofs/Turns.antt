@@ -11,13 +11,13 @@ use lib.ListN.{length, take, set}
 use lib.Seq.{take-take, get_or-set_same, get_or-set_other}
 use lib.Bits.{bit_and, and_le_l}
 use lib.Count.{ones}
+use Rattle.std.specs.Prelude.{Some, None}
 use Rattle.problem.specs.Tables.{Tables, boats, size, listed, lower, higher, place, is_listed, start, row, bit}
 use Rattle.problem.specs.declared.Allowance.TheVariants.{Checks}
 use Rattle.problem.proofs.Places.{allowed_listed}
-use Rattle.problem.proofs.Starts.{start_next, start_within}
+use Rattle.problem.proofs.Starts.{start_next}
 use Rattle.events.specs.Events.{Event, trials, checks}
 use Rattle.events.specs.declared.Counts.{Counts}
-use Rattle.events.specs.declared.Counted.TheVariants.{Within, Out}
 use Rattle.events.specs.Counts.{checks_counted, with_all_checks, Makes, StopsIn}
 use Rattle.events.proofs.Counting.{trials_append}
 use Rattle.events.proofs.Leading.{makes_append, makes_eq, makes_checks, checks_stop, stops_behind, stops_before, stops_eq, stops_count, length_made, checks_made}
@@ -25,7 +25,7 @@ use Rattle.methods.specs.Choices.{choices, may_stand}
 use Rattle.methods.specs.FC.{Swept}
 use Rattle.methods.specs.ByPlan.{is_open, open_checks, open_stays, open_sweep}
 use Rattle.methods.proofs.Shown.{choices_size, may_allowed}
-use Rattle.words.specs.Places.{live_at, blames}
+use Rattle.words.specs.Places.{prev_at, live_at, blames}
 use Rattle.words.specs.Layout.{word, ChangedOnly, first_pair, left_at}
 use Rattle.words.proofs.Bits.{bit_and_lem}
 use Rattle.words.proofs.Firsts.{first_same}
@@ -41,36 +41,22 @@ use Rattle.sweeping.proofs.Ones.{none_set, one_set, no_ones, zero_ones}
 use Rattle.sweeping.proofs.Sweeping.{behind, behind_more, sweep_past, at_stays, at_emptied, at_checks, checks_trials, checks_are}
 use Rattle.sweeping.proofs.Along.{Along, plan_long, gap}
 
--- from the words w₀ and the counts m, the words are w and the counts n; pair k, whose row is word `at`, is one of boat i's, and v is read
-pub record Turn (t : Tables) (w₀ : List ℕ) (i a : ℕ) (m : Counts) (w : List ℕ) (k at : ℕ) (n : Counts) (v : ℕ) : Type 0 where
+-- from the words w₀ and the counts m, the words are w and the counts n; pair k, whose row is word `at`, is one of boat i's
+pub record Turn (t : Tables) (w₀ : List ℕ) (i a : ℕ) (m : Counts) (w : List ℕ) (k at : ℕ) (n : Counts) : Type 0 where
   pub given : Sweepable t w₀ i a
   pub along : Along t w₀ i a m w k at n
   pub more : k < first_pair t.pairs (suc i)
-  pub live : v ≡ left_word t w i (higher t.pairs k)
-  pub fits : v < 2 ^ 64
+  pub fits : word w (word w (prev_at k)) < 2 ^ 64
 
--- ---- where the live slots stand
-module _ {t : Tables} {w₀ : List ℕ} {i a : ℕ} {m : Counts} {w : List ℕ} {k at : ℕ} {n : Counts} (g : Sweepable t w₀ i a) (l : Along t w₀ i a m w k at n)
-    (more : k < first_pair t.pairs (suc i)) where
-  pub is_pair_lem : k < listed t.pairs
-  is_pair_lem = pair_listed t.pairs g.sane.rising i k l.from more
-
-  own : lower t.pairs k ≡ i
-  own = first_same t.pairs g.sane.rising i k l.from more
-
-  pub before_word : word w (512 + k) ≡ left_at t.pairs i (higher t.pairs k)
-  before_word =
-      l.only.others (512 + k) (inl (omega (arith, is_pair_lem, g.sane.few_pairs))) ∙ prev_own t g.sane g.chained i k l.from more
-
-module _ {t : Tables} {w₀ : List ℕ} {i a : ℕ} {m : Counts} {w : List ℕ} {k at : ℕ} {n : Counts} {v : ℕ} (u : Turn t w₀ i a m w k at n v) where
+module _ {t : Tables} {w₀ : List ℕ} {i a : ℕ} {m : Counts} {w : List ℕ} {k at : ℕ} {n : Counts} (u : Turn t w₀ i a m w k at n) where
   abbrev j : ℕ
   j = higher t.pairs k
 
   is : k < listed t.pairs
-  is = is_pair_lem u.given u.along u.more
+  is = pair_listed t.pairs u.given.sane.rising i k u.along.from u.more
 
   low : lower t.pairs k ≡ i
-  low = own u.given u.along u.more
+  low = first_same t.pairs u.given.sane.rising i k u.along.from u.more
 
   later : i < j
   later = omega (arith, low, u.given.sane.lower_first k is)
@@ -100,8 +86,14 @@ module _ {t : Tables} {w₀ : List ℕ} {i a : ℕ} {m : Counts} {w : List ℕ} 
       (λ x lx hx. gap u.given u.along x lx (λ q lq hq. lt_of_lt_of_le hx (left_from q lq hq))))
 
   -- ---- the live word
+  abbrev v : ℕ
+  v = word w (word w (prev_at k))
+
+  before_word : word w (prev_at k) ≡ left_at t.pairs i j
+  before_word = u.along.only.others (prev_at k) (inl (omega (arith, u.along.few))) ∙ prev_own t u.given.sane u.given.chained i k u.along.from u.more
+
   unwritten : v ≡ left_word t w₀ i j
-  unwritten = u.live ∙ left_stays t w₀ w u.given.sane i (same_before u.along.only (le_refl _)) i j (le_refl i) named
+  unwritten = ap (word w) before_word ∙ left_stays t w₀ w u.given.sane i (same_before u.along.only (le_refl _)) i j (le_refl i) named
 
   live_bits : (b : ℕ) → b < 64 → bit v b ≡ (is_open t (take i w₀) j b && ltb b (choices t j))
   live_bits b lb =
@@ -122,7 +114,7 @@ module _ {t : Tables} {w₀ : List ℕ} {i a : ℕ} {m : Counts} {w : List ℕ} 
   as_many = checks_are t (take i w₀) a v j few u.fits live_bits
 
   -- ---- the checks are not within their allowance
-  pub runs_out_lem : checks_counted n (ones v) ≡ Out → StopsIn m (sweep_of t (take i w₀) a).checks Checks (n.most_checks - m.checks) (with_all_checks n)
+  pub runs_out_lem : checks_counted n (ones v) ≡ None → StopsIn m (sweep_of t (take i w₀) a).checks Checks (n.most_checks - m.checks) (with_all_checks n)
   runs_out_lem e =
       let z = at_checks t (take i w₀) a j named is_listed_lem in
       let s : (sweep_of t (take i w₀) a).checks ≡ u.along.made ++ (due ++ z.0) =
@@ -131,11 +123,6 @@ module _ {t : Tables} {w₀ : List ℕ} {i a : ℕ} {m : Counts} {w : List ℕ} 
       let d : length u.along.made + (n.most_checks - n.checks) ≡ n.most_checks - m.checks =
       omega (arith, length_made u.along.makes u.along.none, checks_made u.along.makes, u.along.makes.fits.checks_fit) in
       stops_eq (sym s) (stops_count d (stops_behind u.along.makes (stops_before z.0 c)))
-
-  -- ---- the row of slot a of boat i
-  pub in_rows : at < length t.rows
-  in_rows =
-      omega (arith, u.along.place, ap (size t.sizes) low, start_within t.sizes t.pairs k is, u.given.sane.row_words, u.given.slot)
 
   -- ---- what stays
   row_bit : (b : ℕ) → bit (word t.rows at) b ≡ may_stand t i a j b
@@ -167,20 +154,20 @@ module _ {t : Tables} {w₀ : List ℕ} {i a : ℕ} {m : Counts} {w : List ℕ} 
   some_stay nz = one_set (choices t j) stays (λ b. is_open t (take i w₀) j b && may_stand t (length (take i w₀)) a j b) few stays_fits open_bits (λ z. nz (ap ones z ∙ zero_ones))
 
   -- ---- the word written
-  pub in_words : 4096 + k < length w
+  in_words : 4096 + k < length w
   in_words = omega (arith, is, u.given.sane.few_pairs, u.along.only.long, u.given.room)
 
-  pub still_only : (s : ℕ) → ChangedOnly (live_at (first_pair t.pairs i)) blames w₀ (set w (4096 + k) s)
+  still_only : (s : ℕ) → ChangedOnly (live_at (first_pair t.pairs i)) blames w₀ (set w (4096 + k) s)
   still_only s = only_trans u.along.only (only_set w (4096 + k) s (omega (arith, u.along.from)) (omega (arith, is, u.given.sane.few_pairs)))
 
   -- ---- the checks are within their allowance
-  module _ (x : Counts) (e : checks_counted n (ones v) ≡ Within x) where
+  module _ (x : Counts) (e : checks_counted n (ones v) ≡ Some x) where
     made : Makes m (u.along.made ++ due) x
     made = makes_append u.along.makes (makes_checks n x u.along.makes.fits due (ones v) no_trials as_many e)
 
     -- nothing stays
-    pub empties : ones stays ≡ 0 → SweepsEmpty t (take i w₀) a m k x
-    empties z =
+    emptied_at : ones stays ≡ 0 → SweepsEmpty t (take i w₀) a m k x
+    emptied_at z =
         let s = reached ∙ ap (behind u.along.made) (at_emptied t (take i w₀) a j named is_listed_lem (none_stay z)) in
         record {
           pair = is;
@@ -190,11 +177,14 @@ module _ {t : Tables} {w₀ : List ℕ} {i a : ℕ} {m : Counts} {w : List ℕ} 
         }
 
     -- something stays
-    pub goes_on_lem : (step : ℕ) → step ≡ size t.sizes i → (ones stays ≡ 0 → ⊥) → Along t w₀ i a m (set w (4096 + k) stays) (k + 1) (at + step) x
-    goes_on_lem step es nz =
+    passed_by : (step : ℕ) → step ≡ size t.sizes i → (ones stays ≡ 0 → ⊥) → Along t w₀ i a m (set w (4096 + k) stays) (k + 1) (at + step) x
+    passed_by step es nz =
         record {
           from = omega (arith, u.along.from);
+          few = u.along.few;
           place = omega (arith, next_row, u.along.place);
+          in_rows = u.along.in_rows;
+          before = λ q lo hi. rw (get_or-set_other w (4096 + k) (512 + q) stays 0 (omega (arith, u.along.few))) (u.along.before q lo hi);
           next = suc j;
           within = named;
           gone = λ q lo hi. gone_more q lo (eq-or-lt_of_le (omega arith));
@@ -221,3 +211,12 @@ module _ {t : Tables} {w₀ : List ℕ} {i a : ℕ} {m : Counts} {w : List ℕ} 
         stay_more q b lo lb (inr h) =
             ap (λ (x : ℕ). bit x b) (get_or-set_other w (4096 + k) (4096 + q) stays 0 (omega arith))
             ∙ u.along.stay q b lo h lb
+
+    -- .. as the code reads the rows
+    module _ {rows : List ℕ} (same : rows ≡ t.rows) where
+      pub empties : ones (bit_and v (word rows at)) ≡ 0 → SweepsEmpty t (take i w₀) a m k x
+      empties z = emptied_at (rw same at z)
+
+      pub goes_on_lem : (step : ℕ) → step ≡ size t.sizes i → (ones (bit_and v (word rows at)) ≡ 0 → ⊥) →
+          Along t w₀ i a m (set w (4096 + k) (bit_and v (word rows at))) (k + 1) (at + step) x
+      goes_on_lem step es nz = rw same (passed_by step es (rw same at nz))

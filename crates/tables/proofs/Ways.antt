@@ -14,7 +14,7 @@ use Rattle.problem.specs.Replies.{refusal_told}
 use Rattle.problem.specs.declared.Refusal.{Refusal}
 use Rattle.problem.specs.declared.Refusal.TheVariants.{PairNoBoat, PairSameBoat, PairHigherFirst, PairNotRising}
 use Rattle.problem.proofs.Lowest.{not_both, lowest_here, lowest_none}
-use Rattle.tables.specs.declared.pairs.Way.TheVariants.{Good, Bad}
+use Rattle.std.specs.Prelude.{Ok, Err}
 use Rattle.tables.specs.Tests.{Fault, fault, first_fault, says, Test}
 use Rattle.tables.specs.Applies.{Fails}
 use Rattle.tables.specs.Examination.{names_no_boat, same_boat, higher_first, equal_or_below, not_rising, first_way_bad}
@@ -38,13 +38,13 @@ module _ (f : Fault) (fs : List Fault) where
 
 -- ---- a look at all that a test looks at, the lowest first
 module _ (test : Test) where
-  pub way_first : {k : ℕ} → k < test.count → ((j : ℕ) → j < k → (test.at j).cause ≡ false) → (why : Refusal) → IsWay (Bad why) (test.at k)
-      → IsFirst (Bad why) test
+  pub way_first : {k : ℕ} → k < test.count → ((j : ℕ) → j < k → (test.at j).cause ≡ false) → (why : Refusal) → IsWay (Err why) (test.at k)
+      → IsFirst (Err why) test
   way_first l f why is =
       let q = lowest_here test.count (λ j. (test.at j).cause) _ l f is.0 in
       (omega (arith, q), is.1 ∙ sym (ap (λ j. says (test.at j)) q))
 
-  pub way_nowhere : Fails test → IsFirst Good test
+  pub way_nowhere : Fails test → IsFirst (Ok tt) test
   way_nowhere f = omega (arith, lowest_none test.count (λ j. (test.at j).cause) f)
 
 -- ---- 54: a pair equal to or below another, or above it
@@ -95,7 +95,7 @@ module _ (pairs : List ℕ) where
   rising_above rising (suc k) l = precedes_above pairs (suc k) k (rising k (suc k) (omega arith) l)
 
 -- ---- 51 to 54: a pair
-is_bad : (why : Refusal) {f g : Fault} → g ≡ f → f.cause ≡ true → refusal_told why ≡ says f → IsWay (Bad why) g
+is_bad : (why : Refusal) {f g : Fault} → g ≡ f → f.cause ≡ true → refusal_told why ≡ says f → IsWay (Err why) g
 is_bad why e c s = (ap (λ x. x.cause) e ∙ c, s ∙ sym (ap says e))
 
 module _ (n : ℕ) (pairs : List ℕ) (k : ℕ) where
@@ -114,7 +114,7 @@ module _ (n : ℕ) (pairs : List ℕ) (k : ℕ) where
   abbrev is51lower : Fault
   is51lower = fault 51 (2 * k) (names_no_boat n (lower pairs k))
 
-  pub way_51_lower : n ≤ lower pairs k → IsWay (Bad (PairNoBoat (2 * k))) (first_way_bad n pairs k)
+  pub way_51_lower : n ≤ lower pairs k → IsWay (Err (PairNoBoat (2 * k))) (first_way_bad n pairs k)
   unfolding first_way_bad
   way_51_lower h = let c = le-leb _ _ h in is_bad (PairNoBoat (2 * k)) (fault_here is51lower (is51higher ∷ is52 ∷ is53 ∷ is54 ∷ []) c) c refl
 
@@ -123,21 +123,21 @@ module _ (n : ℕ) (pairs : List ℕ) (k : ℕ) where
     unfolding first_way_bad
     past_51_lower = fault_later is51lower (is51higher ∷ is52 ∷ is53 ∷ is54 ∷ []) (lt-leb _ _ lower_named_lem)
 
-    pub way_51_higher : n ≤ higher pairs k → IsWay (Bad (PairNoBoat (2 * k + 1))) (first_way_bad n pairs k)
+    pub way_51_higher : n ≤ higher pairs k → IsWay (Err (PairNoBoat (2 * k + 1))) (first_way_bad n pairs k)
     way_51_higher h = let c = le-leb _ _ h in is_bad (PairNoBoat (2 * k + 1)) (past_51_lower ∙ fault_here is51higher (is52 ∷ is53 ∷ is54 ∷ []) c) c refl
 
     module _ (higher-named : higher pairs k < n) where
       past_51 : first_way_bad n pairs k ≡ first_fault (is52 ∷ is53 ∷ is54 ∷ [])
       past_51 = past_51_lower ∙ fault_later is51higher (is52 ∷ is53 ∷ is54 ∷ []) (lt-leb _ _ higher-named)
 
-      pub way_52 : lower pairs k ≡ higher pairs k → IsWay (Bad (PairSameBoat (2 * k + 1))) (first_way_bad n pairs k)
+      pub way_52 : lower pairs k ≡ higher pairs k → IsWay (Err (PairSameBoat (2 * k + 1))) (first_way_bad n pairs k)
       way_52 e = let c = eq-eqb _ _ e in is_bad (PairSameBoat (2 * k + 1)) (past_51 ∙ fault_here is52 (is53 ∷ is54 ∷ []) c) c refl
 
       module _ (two : lower pairs k ≡ higher pairs k → ⊥) where
         past_52 : first_way_bad n pairs k ≡ first_fault (is53 ∷ is54 ∷ [])
         past_52 = past_51 ∙ fault_later is52 (is53 ∷ is54 ∷ []) (ne_eqb _ _ two)
 
-        pub way_53 : higher pairs k < lower pairs k → IsWay (Bad (PairHigherFirst (2 * k))) (first_way_bad n pairs k)
+        pub way_53 : higher pairs k < lower pairs k → IsWay (Err (PairHigherFirst (2 * k))) (first_way_bad n pairs k)
         way_53 l = let c = lt-ltb _ _ l in is_bad (PairHigherFirst (2 * k)) (past_52 ∙ fault_here is53 (is54 ∷ []) c) c refl
 
   -- two boats that are there, the lower first
@@ -145,10 +145,10 @@ module _ (n : ℕ) (pairs : List ℕ) (k : ℕ) where
     past_53 : first_way_bad n pairs k ≡ first_fault (is54 ∷ [])
     past_53 = past_52 (omega arith) named (λ e. omega arith) ∙ fault_later is53 (is54 ∷ []) (le-ltb (higher pairs k) (lower pairs k) (omega arith))
 
-    pub way_54 : not_rising pairs k ≡ true → IsWay (Bad (PairNotRising (2 * k))) (first_way_bad n pairs k)
+    pub way_54 : not_rising pairs k ≡ true → IsWay (Err (PairNotRising (2 * k))) (first_way_bad n pairs k)
     way_54 c = is_bad (PairNotRising (2 * k)) (past_53 ∙ fault_here is54 [] c) c refl
 
-    pub way_good : not_rising pairs k ≡ false → IsWay Good (first_way_bad n pairs k)
+    pub way_good : not_rising pairs k ≡ false → IsWay (Ok tt) (first_way_bad n pairs k)
     way_good c = ap (λ x. x.cause) (past_53 ∙ fault_later is54 [] c)
 
   pub good_pair : (first_way_bad n pairs k).cause ≡ false → (lower pairs k < higher pairs k) × (higher pairs k < n) × (not_rising pairs k ≡ false)

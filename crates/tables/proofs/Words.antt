@@ -1,5 +1,5 @@
 -- A word is a row of the pair whose rows hold it, and its cause is read off that pair.
-use mathlib.Core.Path.{◌≡◌, refl, sym, ap, ◌∙◌}
+use mathlib.Core.Path.{◌≡◌, refl, sym, ap, ◌∙◌, subst}
 use mathlib.Core.Bool.{Bool, true, false}
 use mathlib.Core.List.{List}
 use Prim.Native.Nat.{ℕ, zero, suc, ◌+◌, ◌-◌, ◌/◌, ◌^◌, ◌≤◌, ◌<◌}
@@ -9,9 +9,10 @@ use borrow.Author.Tests.{ltb-true, ltb-false, leb-true, leb-false, lt-ltb, le-lt
 use lib.Dec.{ltb, leb}
 use lib.ListN.{length, get_or}
 use lib.Pow.{pow_pos}
-use Rattle.problem.specs.Lowest.{lowest_from, lowest}
+use Rattle.std.specs.Prelude.{Some, None}
+use Rattle.problem.specs.Lowest.{lowest, IsLowestFrom}
 use Rattle.problem.specs.Tables.{Tables, size, listed, lower, higher, start, row}
-use Rattle.problem.proofs.Lowest.{Lowest, lowest_from_is, lowest_here, lowest_none, lowest_fails, lowest_passes, lowest_before}
+use Rattle.problem.proofs.Lowest.{Lowest, lowest_from_is, lowest_here, lowest_fails, lowest_passes, lowest_before}
 use Rattle.problem.proofs.Starts.{start_zero, start_suc, start_mono, start_within}
 use Rattle.tables.specs.Examination.{pair_of_word, bad_word}
 
@@ -43,11 +44,6 @@ pub record Walked (t : Tables) (k word : ℕ) : Type 0 where
   pub first : word ≡ start t.sizes t.pairs k
   pub good : (w : ℕ) → w < word → bad_word t w ≡ false
 
--- a look at the pair's words, up to the next pair's: a bad word of theirs is the lowest, and where there is none the walk goes on
-pub record Looked (t : Tables) (k next wide : ℕ) : Type 0 where
-  pub stops : wide < next → lowest (length t.rows) (bad_word t) ≡ wide
-  pub goes : next ≤ wide → Walked t (suc k) next
-
 pub walk_begins : (t : Tables) → Walked t 0 0
 walk_begins t = record { upto = omega arith; first = sym (start_zero t.sizes t.pairs); good = λ w h. absurd (omega arith) }
 
@@ -60,37 +56,44 @@ module _ {t : Tables} {k word : ℕ} (so : Walked t k word) (whole : length t.ro
     pub walk_inside : word + count ≤ length t.rows
     walk_inside = omega (arith, so.first, start_within t.sizes t.pairs k l)
 
-    -- its higher boat has so many slots, and of its words the lowest that is wide, or their end, is here
-    module _ {bits wide : ℕ} (bt : bits ≡ size t.sizes (higher t.pairs k))
-        (is : wide ≡ lowest_from word (word + count - word) (λ w. leb (2 ^ bits) (get_or t.rows w 0))) where
-      found : Lowest (λ w. leb (2 ^ bits) (get_or t.rows w 0)) word (word + count - word) wide
-      found = rw is (lowest_from_is (λ w. leb (2 ^ bits) (get_or t.rows w 0)) word (word + count - word))
+    -- its higher boat has so many slots: its words are looked at, up to the next pair's
+    module _ {bits : ℕ} (bt : bits ≡ size t.sizes (higher t.pairs k)) where
+      abbrev wide_word : ℕ → Bool
+      wide_word w = leb (2 ^ bits) (get_or t.rows w 0)
 
-      bad_wide : (w : ℕ) → word ≤ w → w < word + count → bad_word t w ≡ leb (2 ^ bits) (get_or t.rows w 0)
+      bad_wide : (w : ℕ) → word ≤ w → w < word + count → bad_word t w ≡ wide_word w
       bad_wide w h i =
           word_of_pair t k l w (omega (arith, so.first)) (omega (arith, walk_next)) ∙ ap (λ s. leb (2 ^ s) (get_or t.rows w 0)) (sym bt)
 
-      fails : (w : ℕ) → w < wide → bad_word t w ≡ false
-      fails w h = by (ltb w word) refl
-        where
-          by : (b : Bool) → ltb w word ≡ b → bad_word t w ≡ false
-          by true e = so.good w (ltb-true _ _ e)
-          by false e =
-              let i = ltb-false w word e in
-              bad_wide w i (omega (arith, found.upto)) ∙ found.fails w i h
+      module _ {wide : ℕ} (found : Lowest wide_word word (word + count - word) wide) where
+        fails : (w : ℕ) → w < wide → bad_word t w ≡ false
+        fails w h = by (ltb w word) refl
+          where
+            by : (b : Bool) → ltb w word ≡ b → bad_word t w ≡ false
+            by true e = so.good w (ltb-true _ _ e)
+            by false e =
+                let i = ltb-false w word e in
+                bad_wide w i (omega (arith, found.upto)) ∙ found.fails w i h
 
-      pub walk_looks : Looked t k (word + count) wide
-      walk_looks = record {
-        stops = λ h.
-            lowest_here (length t.rows) (bad_word t) wide (omega (arith, walk_inside)) fails
-            (bad_wide wide found.from h ∙ found.passes (omega arith));
-        goes = λ h. record { upto = l; first = walk_next; good = λ w i. fails w (omega arith) };
-      }
+      -- a wide one is the lowest bad word
+      pub walk_stops : {w : ℕ} → IsLowestFrom (Some w) word (word + count - word) wide_word →
+          (w < length t.rows) × ((j : ℕ) → j < w → bad_word t j ≡ false) × (bad_word t w ≡ true)
+      walk_stops {w} is =
+          let found : Lowest wide_word word (word + count - word) w = rw is.1 (lowest_from_is wide_word word (word + count - word)) in
+          let inside : w < word + count = omega (arith, is.0) in
+          (omega (arith, walk_inside), fails found, bad_wide w found.from inside ∙ found.passes is.0)
 
-  pub walk_ends : listed t.pairs ≤ k → lowest (length t.rows) (bad_word t) ≡ word
-  walk_ends h =
+      -- where there is none, the walk goes on
+      pub walk_goes : IsLowestFrom None word (word + count - word) wide_word → Walked t (suc k) (word + count)
+      walk_goes none =
+          let found : Lowest wide_word word (word + count - word) (word + count) =
+          subst (Lowest wide_word word (word + count - word)) (omega (arith, none)) (lowest_from_is wide_word word (word + count - word)) in
+          record { upto = l; first = walk_next; good = fails found }
+
+  pub walk_ends : listed t.pairs ≤ k → (w : ℕ) → w < length t.rows → bad_word t w ≡ false
+  walk_ends h w i =
       let e : word ≡ length t.rows = so.first ∙ ap (start t.sizes t.pairs) (le_antisymm so.upto h) ∙ sym whole in
-      lowest_none (length t.rows) (bad_word t) (λ w i. so.good w (omega arith)) ∙ sym e
+      so.good w (omega arith)
 
 -- every word is a row of its pair
 module _ (sizes pairs : List ℕ) (w : ℕ) where

@@ -7,13 +7,6 @@ ghost use Rattle.tables.specs.Ways.{IsWay, IsFirst};
 
 use problem::Refusal;
 
-// A pair, or all of them, good; or the way that one is bad, with its byte.
-#[derive(Drop)]
-pub enum Way {
-    Good,
-    Bad(Refusal),
-}
-
 // A pair is equal to or below an earlier one: by its lower boat, then by its higher.
 fn is_equal_or_below(pairs: &[u8], pair: usize, before: usize) -> bool
     requires pair_bound { pair < listed pairs.now }
@@ -39,8 +32,8 @@ fn is_not_rising(pairs: &[u8], pair: usize) -> bool
     is_equal_or_below(pairs, pair, pair - 1)
 }
 
-// The first of the four ways in which a pair is bad, if it is.
-fn way_bad(boats: usize, pairs: &[u8], pair: usize) -> Way
+// The pair is good; or the first of the four ways in which it is bad, with its byte.
+fn good_way(boats: usize, pairs: &[u8], pair: usize) -> Result<(), Refusal>
     requires { pair < listed pairs.now }
     ensures { IsWay result (first_way_bad boats pairs.now pair) }
 {
@@ -49,35 +42,29 @@ fn way_bad(boats: usize, pairs: &[u8], pair: usize) -> Way
     let first = 2 * pair;
     let second = first + 1;
     if boats <= low {
-        return Way::Bad(Refusal::PairNoBoat(first));
+        return Err(Refusal::PairNoBoat(first));
     }
     if boats <= high {
-        return Way::Bad(Refusal::PairNoBoat(second));
+        return Err(Refusal::PairNoBoat(second));
     }
     if low == high {
-        return Way::Bad(Refusal::PairSameBoat(second));
+        return Err(Refusal::PairSameBoat(second));
     }
     if high < low {
-        return Way::Bad(Refusal::PairHigherFirst(first));
+        return Err(Refusal::PairHigherFirst(first));
     }
     if is_not_rising(pairs, pair) {
-        return Way::Bad(Refusal::PairNotRising(first));
+        return Err(Refusal::PairNotRising(first));
     }
-    Way::Good
+    Ok(())
 }
 
-// The way in which the lowest bad pair is bad, if there is one.
-pub fn first_bad_pair(boats: usize, pairs: &[u8]) -> Way
+// All pairs are good; or the way in which the lowest bad one is bad.
+pub fn all_good(boats: usize, pairs: &[u8]) -> Result<(), Refusal>
     ensures { IsFirst result (each_way (listed pairs.now) (first_way_bad boats pairs.now)) }
 {
-    let count = pairs.len() / 2;
-    let mut k: usize = 0;
-    while k < count {
-        let way = way_bad(boats, pairs, k);
-        if let Way::Bad(why) = way {
-            return Way::Bad(why);
-        }
-        k += 1;
+    for k in 0..pairs.len() / 2 {
+        good_way(boats, pairs, k)?;
     }
-    Way::Good
+    Ok(())
 }

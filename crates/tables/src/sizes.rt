@@ -1,21 +1,20 @@
 // Number 3: the sizes.
 ghost use Rattle.std.specs.Prelude.{◌≡◌, ◌≤◌, length};
-ghost use Rattle.problem.specs.Lowest.{lowest};
+ghost use Rattle.tables.specs.Tests.{each};
 ghost use Rattle.tables.specs.Examination.{is_bad_size};
+ghost use Rattle.tables.specs.Ways.{IsFirst};
 
-use problem::Problem;
+use problem::{Problem, Refusal};
 
-// The lowest boat whose size is 0 or above 64; the number of boats where there is none.
-pub fn first_bad_size(sizes: &[u8]) -> usize
+// No size is 0 or above 64; or the lowest boat whose size is.
+pub fn all_good(sizes: &[u8]) -> Result<(), Refusal>
     requires { length sizes.now ≤ 64 }
-    ensures { result ≡ lowest (length sizes.now) (is_bad_size sizes.now) }
+    ensures { IsFirst result (each 3 (length sizes.now) (is_bad_size sizes.now)) }
 {
-    let mut i: usize = 0;
-    while i < sizes.len() {
+    for i in 0..sizes.len() {
         if Problem::bad_size(looks::size_of(sizes, i)) {
-            return i;
+            return Err(Refusal::Size(i));
         }
-        i += 1;
     }
-    i
+    Ok(())
 }

@@ -22,8 +22,7 @@ use Rattle.words.proofs.ChangedOnly.{only_refl, only_widen, only_take}
 use Rattle.words.proofs.Frames.{same_before, same_after, placed_stays, indexed_stays, linked_stays, firsts_stay, chained_stays}
 use Rattle.visits.specs.declared.Backward.{Backward}
 use Rattle.visits.specs.declared.Backward.TheVariants.{OneBack}
-use Rattle.visits.specs.declared.Unlabelled.{Unlabelled}
-use Rattle.visits.specs.declared.Unlabelled.TheVariants.{Back, NoPlan}
+use Rattle.std.specs.Prelude.{Option, Some, None}
 use Rattle.visits.specs.Visits.{steps_over}
 use Rattle.looking_back.specs.Kept.{KeptBack}
 use Rattle.marks.specs.Marks.{marks_of, NeverRises}
@@ -72,9 +71,13 @@ module _ {t : Tables} {w : List ℕ} {i : ℕ} (g : Leaving t w i) where
         }
 
 -- ---- one boat back
-pub step_is : (i : ℕ) → (i ≡ 0 → ⊥) → Back (i - 1) ≡ steps_back i
-step_is zero ne = absurd (ne refl)
-step_is (suc h) ne = let e : suc h - 1 ≡ h = omega arith in ap Back e
+pub stepped : (i : ℕ) {h : ℕ} → steps_back i ≡ Some h → i ≡ suc h
+stepped zero e = cc
+stepped (suc n) e = ap suc cc
+
+pub stepped_none : (i : ℕ) → steps_back i ≡ None → i ≡ 0
+stepped_none zero e = refl
+stepped_none (suc n) e = cc
 
 -- over a forward move that remembers nothing
 module _ (t : Tables) (F : Forward (Unit {0})) (p : List ℕ) where
@@ -107,19 +110,19 @@ ahead_steps {t} {w} (suc h) g q =
     }
 
 module _ {t : Tables} {w : List ℕ} {i : ℕ} (g : Leaving t w i) where
-  pub back_by_one : {r : Unlabelled} → r ≡ steps_back i → KeptBack t w i → Unlabels (LookingBack OneBack) t w i w r
-  back_by_one e q = subst (λ (x : Unlabelled). Unlabels (LookingBack OneBack) t w i w x) (sym e) (back_steps i g q)
+  pub back_by_one : {r : Option ℕ} → r ≡ steps_back i → KeptBack t w i → Unlabels (LookingBack OneBack) t w i w r
+  back_by_one e q = subst (λ (x : Option ℕ). Unlabels (LookingBack OneBack) t w i w x) (sym e) (back_steps i g q)
 
-  pub ahead_by_one : {r : Unlabelled} → r ≡ steps_back i → KeptAhead OneBack t w i → Unlabels (LookingAhead OneBack) t w i w r
-  ahead_by_one e q = subst (λ (x : Unlabelled). Unlabels (LookingAhead OneBack) t w i w x) (sym e) (ahead_steps i g q)
+  pub ahead_by_one : {r : Option ℕ} → r ≡ steps_back i → KeptAhead OneBack t w i → Unlabels (LookingAhead OneBack) t w i w r
+  ahead_by_one e q = subst (λ (x : Option ℕ). Unlabels (LookingAhead OneBack) t w i w x) (sym e) (ahead_steps i g q)
 
   -- ---- and the marks' b lowered
-  pub marked_none : i ≡ 0 → Unlabels Marking t w i w NoPlan
+  pub marked_none : i ≡ 0 → Unlabels Marking t w i w None
   unfolding bm
   marked_none e = record { only = only_refl _ _ w; goes = ap (λ (n : ℕ). one_back n (λ h. lowered (marks_of w) (length (take i w)) h)) (left_plan g ∙ e) }
 
   pub marked_back : Kept Marking t w i → (i ≡ 0 → ⊥) → {w' : List ℕ} → marks_of w' ≡ lowered (marks_of w) i (i - 1) → ChangedOnly (low_at i) (low_at (boats t)) w w' →
-      Unlabels Marking t w i w' (Back (i - 1))
+      Unlabels Marking t w i w' (Some (i - 1))
   unfolding bm
   marked_back q ne {w'} e o =
       let few = g.sane.few_boats in

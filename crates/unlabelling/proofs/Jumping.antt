@@ -25,8 +25,7 @@ use Rattle.words.specs.Sets.{Deepest, HandedDown, members_of, set_words, SetsBel
 use Rattle.words.proofs.Bits.{bit_zero, bit_or_lem, deepest_is, deepest_empty}
 use Rattle.words.proofs.ChangedOnly.{only_refl, only_set, only_widen, only_take}
 use Rattle.visits.specs.declared.Backward.TheVariants.{BySets}
-use Rattle.visits.specs.declared.Unlabelled.{Unlabelled}
-use Rattle.visits.specs.declared.Unlabelled.TheVariants.{Back, NoPlan}
+use Rattle.std.specs.Prelude.{Option as Goes, Some, None}
 use Rattle.visits.specs.Visits.{State, steps_over, state}
 use Rattle.looking_back.specs.Kept.{KeptBack}
 use Rattle.live_words.specs.Kept.{KeptAhead}
@@ -128,14 +127,14 @@ hands_down w {i = i} {blamed = blamed} {h = h} {u = u} few enough l d s =
 -- the boats to blame, by the word of the set and those that the forward move blames
 module _ {t : Tables} {w : List ℕ} {i : ℕ} (g : Leaving t w i) where
   -- ---- looking back: nobody else
-  pub back_by_sets : KeptBack t w i → SetsBelow w i → (w' : List ℕ) (r : Unlabelled) → JumpsBack w i (word w (set_at i)) w' r → Unlabels (LookingBack BySets) t w i w' r
+  pub back_by_sets : KeptBack t w i → SetsBelow w i → (w' : List ℕ) (r : Goes ℕ) → JumpsBack w i (word w (set_at i)) w' r → Unlabels (LookingBack BySets) t w i w' r
   unfolding looking_back
-  back_by_sets q l w' NoPlan d =
+  back_by_sets q l w' None d =
       record {
         only = rw d.1 (only_refl _ _ w);
         goes = nobody_left t (looking_back t) w i (word w (set_at i)) g.boat (left_long g) (λ j. sym (or_none (bit (word w (set_at i)) j))) d.0;
       }
-  back_by_sets q l w' (Back h) d =
+  back_by_sets q l w' (Some h) d =
       record {
         below = d.below;
         same = plan_same (left_few g) g.room d;
@@ -155,28 +154,28 @@ module _ {t : Tables} {w : List ℕ} {i : ℕ} (g : Leaving t w i) where
     pub blamed_below : blamed < 2 ^ i
     blamed_below = or_lt i _ _ (l i (le_refl i)) (rw beside_last (q.blames i i (le_refl i) g.boat).below)
 
-    module _ (fit : (k : ℕ) → word w k < 2 ^ 64) where
-      all_blamed : (j : ℕ) → bit blamed j ≡ (bit (word w (set_at i)) j || (ahead_by_plan t).blamers tt (take i w) j)
-      unfolding ahead_by_plan
-      all_blamed j =
-          let e = left_plan g in
-          bit_or_lem (word w (set_at i)) (word w (blame_at (word w (last_at i)))) j
-          ∙ ap (λ (b : Bool). bit (word w (set_at i)) j || b)
-          (ap (λ (n : ℕ). bit n j) beside_last
-          ∙ blame_blamers t w (take i w) i i e (le_refl i) g.boat (g.sane.few_slots i g.boat) fit q.lives q.blames j
-          ∙ ap (λ (n : ℕ). blamers_of t (take i w) n j) (sym e))
+    pub all_blamed : ((k : ℕ) → word w k < 2 ^ 64) → (j : ℕ) → bit blamed j ≡ (bit (word w (set_at i)) j || (ahead_by_plan t).blamers tt (take i w) j)
+    unfolding ahead_by_plan
+    all_blamed fit j =
+        let e = left_plan g in
+        bit_or_lem (word w (set_at i)) (word w (blame_at (word w (last_at i)))) j
+        ∙ ap (λ (b : Bool). bit (word w (set_at i)) j || b)
+        (ap (λ (n : ℕ). bit n j) beside_last
+        ∙ blame_blamers t w (take i w) i i e (le_refl i) g.boat (g.sane.few_slots i g.boat) fit q.lives q.blames j
+        ∙ ap (λ (n : ℕ). blamers_of t (take i w) n j) (sym e))
 
-      pub ahead_by_sets : (w' : List ℕ) (r : Unlabelled) → JumpsBack w i blamed w' r → Unlabels (LookingAhead BySets) t w i w' r
-      ahead_by_sets w' NoPlan d =
+    module _ (among : ℕ) (all : (j : ℕ) → bit among j ≡ (bit (word w (set_at i)) j || (ahead_by_plan t).blamers tt (take i w) j)) where
+      pub ahead_by_sets : (w' : List ℕ) (r : Goes ℕ) → JumpsBack w i among w' r → Unlabels (LookingAhead BySets) t w i w' r
+      ahead_by_sets w' None d =
           record {
             only = rw d.1 (only_refl _ _ w);
-            goes = nobody_left t (ahead_by_plan t) w i blamed g.boat (left_long g) all_blamed d.0;
+            goes = nobody_left t (ahead_by_plan t) w i among g.boat (left_long g) all d.0;
           }
-      ahead_by_sets w' (Back h) d =
+      ahead_by_sets w' (Some h) d =
           record {
             below = d.below;
             same = plan_same (left_few g) g.room d;
             only = within (left_few g) g.room d;
             kept = record { words = ahead_kept g (beside (left_few g) g.room d) d.below q; sets = below_after (left_few g) g.room d l };
-            goes = goes_back t (ahead_by_plan t) w i blamed g.boat (left_long g) all_blamed w' h d;
+            goes = goes_back t (ahead_by_plan t) w i among g.boat (left_long g) all w' h d;
           }

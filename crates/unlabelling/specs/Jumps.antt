@@ -3,13 +3,12 @@ use Rattle.std.specs.Prelude.{◌≡◌, List, ℕ, zero, suc, ◌<◌}
 use Rattle.words.specs.Places.{set_at, next_set_at}
 use Rattle.words.specs.Layout.{word, ChangedOnly}
 use Rattle.words.specs.Sets.{Deepest, HandedDown}
-use Rattle.visits.specs.declared.Unlabelled.{Unlabelled}
-use Rattle.visits.specs.declared.Unlabelled.TheVariants.{Back, NoPlan}
+use Rattle.std.specs.Prelude.{Option, Some, None}
 
 -- one boat back
-abbrev pub steps_back : (i : ℕ) → Unlabelled
-steps_back zero = NoPlan
-steps_back (suc h) = Back h
+abbrev pub steps_back : (i : ℕ) → Option ℕ
+steps_back zero = None
+steps_back (suc h) = Some h
 
 -- back to the deepest boat to blame: only its set changed
 pub record HandsDown (w : List ℕ) (i blamed : ℕ) (w' : List ℕ) (h : ℕ) : Type 0 where
@@ -18,6 +17,6 @@ pub record HandsDown (w : List ℕ) (i blamed : ℕ) (w' : List ℕ) (h : ℕ) :
   pub handed : HandedDown blamed (word w (set_at h)) h (word w' (set_at h))
   pub only : ChangedOnly (set_at h) (next_set_at h) w w'
 
-abbrev pub JumpsBack : List ℕ → (i blamed : ℕ) → List ℕ → Unlabelled → Type 0
-JumpsBack w i blamed w' (Back h) = HandsDown w i blamed w' h
-JumpsBack w i blamed w' NoPlan = (blamed ≡ 0) × (w' ≡ w)
+abbrev pub JumpsBack : List ℕ → (i blamed : ℕ) → List ℕ → Option ℕ → Type 0
+JumpsBack w i blamed w' (Some h) = HandsDown w i blamed w' h
+JumpsBack w i blamed w' None = (blamed ≡ 0) × (w' ≡ w)

@@ -5,8 +5,7 @@ use Rattle.problem.specs.Sane.{Sane}
 use Rattle.methods.specs.Machine.{nowhere, back}
 use Rattle.words.specs.Places.{used}
 use Rattle.words.specs.Layout.{ChangedOnly}
-use Rattle.visits.specs.declared.Unlabelled.{Unlabelled}
-use Rattle.visits.specs.declared.Unlabelled.TheVariants.{Back, NoPlan}
+use Rattle.std.specs.Prelude.{Option, Some, None}
 use Rattle.moves.specs.declared.Moves.{Moves}
 use Rattle.moves.specs.Memory.{steps_by, memory, Kept}
 
@@ -29,6 +28,6 @@ pub record GoesNowhere (moves : Moves) (t : Tables) (w : List ℕ) (i : ℕ) (w'
   pub only : ChangedOnly 0 used w w'
   pub goes : (steps_by moves t).unlabel (memory moves w i) (take i w) ≡ nowhere
 
-abbrev pub Unlabels : Moves → Tables → List ℕ → (i : ℕ) → List ℕ → Unlabelled → Type 0
-Unlabels moves t w i w' (Back h) = GoesBack moves t w i w' h
-Unlabels moves t w i w' NoPlan = GoesNowhere moves t w i w'
+abbrev pub Unlabels : Moves → Tables → List ℕ → (i : ℕ) → List ℕ → Option ℕ → Type 0
+Unlabels moves t w i w' (Some h) = GoesBack moves t w i w' h
+Unlabels moves t w i w' None = GoesNowhere moves t w i w'

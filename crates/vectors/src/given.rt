@@ -1,25 +1,21 @@
 // The two questions about a given plan.
-use crate::out::Out;
-use crate::say;
+use crate::group::Tables;
+use crate::lists;
+use crate::told::Told;
+use reading::Fields;
+use std::alloc::Global;
+use std::io;
 use std::io::Write;
 
 pub fn given(
-    text: &[u8],
-    at: usize,
-    sizes: &[u8],
-    pairs: &[u8],
-    rows: &[u64],
-    out: &mut Out<impl Write + Drop>,
-) {
-    let mut room = [0u8; reading::BYTES];
-    let slots = reading::bytes(text, at, &mut room);
-    let count = slots.count;
-    both(sizes, pairs, rows, &room[0..count], out)
-}
-
-fn both(sizes: &[u8], pairs: &[u8], rows: &[u64], plan: &[u8], out: &mut Out<impl Write + Drop>) {
-    say::text(b"p", out);
-    say::judged(questions::is_lawful(sizes, pairs, rows, plan), out);
-    say::broken(questions::first_broken(sizes, pairs, rows, plan), out);
-    say::text(b"\n", out)
+    mut fields: Fields,
+    tables: &Tables,
+    alloc: Global,
+    out: &mut impl Write,
+) -> io::Result<()> {
+    let plan = lists::bytes(&mut fields, alloc)?;
+    let Tables { sizes, pairs, rows } = tables;
+    let lawful = Told::of(questions::is_lawful(sizes, pairs, rows, &plan));
+    let broken = Told::of(questions::first_broken(sizes, pairs, rows, &plan));
+    writeln!(out, "p {lawful} {broken}")
 }

@@ -4,13 +4,17 @@
 mod file_lines;
 mod given;
 mod group;
+mod hex;
 mod lent;
-mod out;
+mod lists;
+mod question;
 mod run;
-mod say;
 mod shown;
+mod told;
 
-use out::Out;
+use group::Tables;
+use reading::Lines;
+use std::alloc::Global;
 use std::io;
 use std::io::{BufWriter, Read, Write};
 
@@ -21,14 +25,23 @@ const ROOM: u64 = 2097152;
 fn main(rt: HostRuntime) -> io::Result<()> {
     let mut text = Vec::new(rt.alloc());
     rt.reader().take(ROOM).read_to_end(&mut text)?;
-    let mut out = Out::new(BufWriter::new(rt.alloc(), io::writer(&rt))?);
-    all_groups(&text, &mut out);
-    out.end()
+    let mut out = BufWriter::new(rt.alloc(), io::writer(&rt))?;
+    answer_all(&text, rt.alloc(), &mut out)?;
+    out.flush()
 }
 
-fn all_groups(text: &[u8], out: &mut Out<impl Write + Drop>) {
-    let mut at: usize = 0;
-    while at < text.len() {
-        at = group::group(text, at, out);
+// The first line has tables, whatever it begins with.
+fn answer_all(text: &[u8], alloc: Global, out: &mut impl Write) -> io::Result<()> {
+    let mut tables: Option<Tables> = None;
+    for line in Lines::new(text) {
+        match &tables {
+            Some(asked) if line.kind != b't' => question::answer(line, asked, alloc, out)?,
+            _ => {
+                let read = Tables::read(line.fields, alloc)?;
+                read.examine(out)?;
+                tables = Some(read);
+            }
+        }
     }
+    Ok(())
 }

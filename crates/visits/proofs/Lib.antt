@@ -1,4 +1,3 @@
-pub mod Looks
 pub mod Looking
 pub mod Ends
 pub mod Visiting

@@ -12,8 +12,7 @@ use Rattle.problem.specs.Tables.{Tables, is_listed}
 use Rattle.problem.specs.declared.Allowance.{Allowance}
 use Rattle.problem.specs.declared.Allowance.TheVariants.{Checks}
 use Rattle.events.specs.declared.Counts.{Counts}
-use Rattle.events.specs.declared.Counted.{Counted}
-use Rattle.events.specs.declared.Counted.TheVariants.{Within, Out as CountedOut}
+use Rattle.std.specs.Prelude.{Option, Some, None}
 use Rattle.events.specs.Events.{Event, check, trials_of, trials}
 use Rattle.events.specs.Counts.{check_counted, Fits, Makes, StopsIn}
 use Rattle.events.proofs.Counting.{trials_append}
@@ -31,22 +30,22 @@ look_of false may m = Allowed m
 look_of true may m = checked_look may (check_counted m)
 
 -- what the code's look says of the counts
-allowed_case : (o : Bool) (c : Counted) (k : Counts) → checked_look o c ≡ Allowed k → (o ≡ true) × (c ≡ Within k)
-allowed_case true (Within n) k e = (refl, cc)
-allowed_case false (Within n) k e = let z : ◌≡◌ {A = ℕ} 0 1 = cc in absurd (omega arith)
-allowed_case true CountedOut k e = let z : ◌≡◌ {A = ℕ} 0 1 = cc in absurd (omega arith)
-allowed_case false CountedOut k e = let z : ◌≡◌ {A = ℕ} 0 1 = cc in absurd (omega arith)
+allowed_case : (o : Bool) (c : Option Counts) (k : Counts) → checked_look o c ≡ Allowed k → (o ≡ true) × (c ≡ Some k)
+allowed_case true (Some n) k e = (refl, cc)
+allowed_case false (Some n) k e = let z : ◌≡◌ {A = ℕ} 0 1 = cc in absurd (omega arith)
+allowed_case true None k e = let z : ◌≡◌ {A = ℕ} 0 1 = cc in absurd (omega arith)
+allowed_case false None k e = let z : ◌≡◌ {A = ℕ} 0 1 = cc in absurd (omega arith)
 
-forbidden_case : (o : Bool) (c : Counted) (k : Counts) → checked_look o c ≡ Forbidden k → (o ≡ false) × (c ≡ Within k)
-forbidden_case true (Within n) k e = let z : ◌≡◌ {A = ℕ} 0 1 = cc in absurd (omega arith)
-forbidden_case false (Within n) k e = (refl, cc)
-forbidden_case true CountedOut k e = let z : ◌≡◌ {A = ℕ} 0 1 = cc in absurd (omega arith)
-forbidden_case false CountedOut k e = let z : ◌≡◌ {A = ℕ} 0 1 = cc in absurd (omega arith)
+forbidden_case : (o : Bool) (c : Option Counts) (k : Counts) → checked_look o c ≡ Forbidden k → (o ≡ false) × (c ≡ Some k)
+forbidden_case true (Some n) k e = let z : ◌≡◌ {A = ℕ} 0 1 = cc in absurd (omega arith)
+forbidden_case false (Some n) k e = (refl, cc)
+forbidden_case true None k e = let z : ◌≡◌ {A = ℕ} 0 1 = cc in absurd (omega arith)
+forbidden_case false None k e = let z : ◌≡◌ {A = ℕ} 0 1 = cc in absurd (omega arith)
 
-out_case : (o : Bool) (c : Counted) → checked_look o c ≡ OutOfChecks → c ≡ CountedOut
-out_case true (Within n) e = let z : ◌≡◌ {A = ℕ} 0 1 = cc in absurd (omega arith)
-out_case false (Within n) e = let z : ◌≡◌ {A = ℕ} 0 1 = cc in absurd (omega arith)
-out_case o CountedOut e = refl
+out_case : (o : Bool) (c : Option Counts) → checked_look o c ≡ OutOfChecks → c ≡ None
+out_case true (Some n) e = let z : ◌≡◌ {A = ℕ} 0 1 = cc in absurd (omega arith)
+out_case false (Some n) e = let z : ◌≡◌ {A = ℕ} 0 1 = cc in absurd (omega arith)
+out_case o None e = refl
 
 -- ---- checks that are made before what is found further on
 abbrev pub behind : List Event → Looked → Looked
@@ -123,7 +122,7 @@ module _ {t : Tables} {w : List ℕ} {i a : ℕ} {whole : Looked} {m : Counts} {
 
     module _ (r : Look) (k : Counts) (e : r ≡ look_of (is_listed t.pairs h i) (may_stand t h (word w h) i a) n) where
       -- one check more
-      counted : check_counted n ≡ Within k → Makes m (b.made ++ (due ∷ [])) k
+      counted : check_counted n ≡ Some k → Makes m (b.made ++ (due ∷ [])) k
       counted c = makes_append b.makes (makes_check n k b.makes.fits h (word w h) i a c)
 
       one_more : trials (b.made ++ (due ∷ [])) ≡ 0
@@ -158,12 +157,12 @@ module _ {t : Tables} {w : List ℕ} {i a : ℕ} {whole : Looked} {m : Counts} {
     pub looks_out : look_of (is_listed t.pairs h i) (may_stand t h (word w h) i a) n ≡ OutOfChecks → StopsIn m whole.checks Checks (n.checks - m.checks) n
     looks_out = by (is_listed t.pairs h i) refl
       where
-        stopped : check_counted n ≡ CountedOut → (es : List Event) → whole.checks ≡ b.made ++ due ∷ es → StopsIn m whole.checks Checks (n.checks - m.checks) n
+        stopped : check_counted n ≡ None → (es : List Event) → whole.checks ≡ b.made ++ due ∷ es → StopsIn m whole.checks Checks (n.checks - m.checks) n
         stopped c es s =
             let z : length b.made + 0 ≡ n.checks - m.checks = omega (arith, looks_made) in
             stops_eq (sym s) (stops_count z (stops_behind b.makes (check_stops n b.makes.fits h (word w h) i a es c)))
 
-        on : (o : Bool) → may_stand t h (word w h) i a ≡ o → is_listed t.pairs h i ≡ true → check_counted n ≡ CountedOut → StopsIn m whole.checks Checks (n.checks - m.checks) n
+        on : (o : Bool) → may_stand t h (word w h) i a ≡ o → is_listed t.pairs h i ≡ true → check_counted n ≡ None → StopsIn m whole.checks Checks (n.checks - m.checks) n
         on true eo el c = stopped c rest.checks (ap (λ (x : Looked). x.checks) (open_look true true el eo))
         on false eo el c = stopped c [] (ap (λ (x : Looked). x.checks) (open_look true false el eo))
 

@@ -6,7 +6,7 @@ ghost use Rattle.problem.specs.Tables.{bit};
 ghost use Rattle.events.specs.Counts.{check_counted};
 ghost use Rattle.visits.specs.Looks.{checked_look};
 
-use events::{Counted, Counts};
+use events::Counts;
 
 // A way back over a forward move that remembers nothing of its own: by one boat, or by conflict sets.
 #[derive(Clone, Copy)]
@@ -24,13 +24,6 @@ pub enum Visited {
     OutOfTrials(Counts, u64, u64),
 }
 
-// Where a boat with no slot left goes.
-#[derive(Drop)]
-pub enum Unlabelled {
-    Back(usize),
-    NoPlan,
-}
-
 // One boat looked at: go on to the next, leave the trial, or end the run with the counts as they were.
 #[derive(Drop)]
 pub enum Look {
@@ -44,14 +37,12 @@ pub fn check_row(row: u64, slot: u64, counts: Counts) -> Look
     requires { slot < 64 }
     ensures { result ≡ checked_look (bit row slot) (check_counted counts) }
 {
-    match counts.check() {
-        Counted::Out => Look::OutOfChecks,
-        Counted::Within(k) => {
-            if looks::bit(row, slot as usize) {
-                Look::Allowed(k)
-            } else {
-                Look::Forbidden(k)
-            }
-        }
+    let Some(k) = counts.check() else {
+        return Look::OutOfChecks;
+    };
+    if looks::bit(row, slot as usize) {
+        Look::Allowed(k)
+    } else {
+        Look::Forbidden(k)
     }
 }

@@ -1,7 +1,6 @@
 -- Where a walk ends, from any place.
 use Rattle.std.specs.Prelude.{◌≡◌, List, ℕ, ◌≤◌, ◌<◌, length, take}
 use Rattle.problem.specs.Tables.{Tables, boats}
-use Rattle.problem.specs.Sane.{Sane}
 use Rattle.problem.specs.declared.Allowance.{Allowance}
 use Rattle.events.specs.Events.{Event, no_plan}
 use Rattle.events.specs.declared.Counts.{Counts}
@@ -60,7 +59,6 @@ pub record Ends (moves : Moves) (t : Tables) (p : List ℕ) (a : ℕ) (σ : Memo
 
 -- ---- from any place: the boats below i hold slots, and m is reached
 pub record Setting (moves : Moves) (t : Tables) (w : List ℕ) (i : ℕ) (m : Counts) : Type 0 where
-  pub sane : Sane t
   pub boat : i ≤ boats t
   pub room : used ≤ length w
   pub kept : Kept moves t w i

@@ -1,21 +1,12 @@
--- The first words zeroed: by a loop, one store a turn; and what is then in the words.
+-- What is in the words once the first are zeroed.
 use mathlib.Core.Path.{◌≡◌, sym, ap, ◌∙◌}
 use mathlib.Core.Logic.{⊎_elim}
 use mathlib.Core.List.{List, ◌++◌}
 use Prim.Native.Nat.{ℕ, ◌+◌, ◌-◌, ◌≤◌, ◌<◌}
 use native.Mathlib.Omega.{arith}
-use borrow.Author.Fill.{fill_none, fill_more}
-use lib.ListN.{length, set, drop, replicate, length-replicate, get_or-replicate, get_or-append, length-append, length-drop}
+use lib.ListN.{length, drop, replicate, length-replicate, get_or-replicate, get_or-append, length-append, length-drop}
 use lib.Seq.{drop-append_seam, get_or-drop}
 use Rattle.words.specs.Layout.{word, zeroed, ChangedOnly}
-
-pub zeroed_none : (w : List ℕ) → w ≡ zeroed 0 w
-unfolding zeroed
-zeroed_none w = fill_none w 0
-
-pub zeroed_more : (n : ℕ) (w : List ℕ) → n < length w → set (zeroed n w) n 0 ≡ zeroed (n + 1) w
-unfolding zeroed
-zeroed_more n w l = fill_more n 0 w l
 
 pub zeroed_at : (n k : ℕ) (w : List ℕ) → k < n → word (zeroed n w) k ≡ 0
 unfolding zeroed

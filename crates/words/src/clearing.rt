@@ -10,7 +10,5 @@ pub fn clear(work: &mut [u64])
     requires { used ≤ length work.old }
     ensures { work.new ≡ zeroed used work.old }
 {
-    for k in 0..Problem::WORK {
-        work[k] = 0;
-    }
+    work[..Problem::WORK].fill(0);
 }

@@ -1,17 +1,36 @@
 -- Contents put into memory one after another.
-use mathlib.Core.Path.{◌≡◌, sym, ap, ap₂, subst, ◌∙◌}
-use mathlib.Core.List.{List, ◌++◌, append_assoc}
-use Prim.Native.Nat.{ℕ, ◌+◌, ◌≤◌}
+use mathlib.Core.Path.{◌≡◌, refl, sym, ap, ap₂, subst, ◌∙◌}
+use mathlib.Core.List.{List, [], ◌++◌, append_assoc, append-nil}
+use Prim.Native.Nat.{ℕ, ◌+◌, ◌*◌, ◌≤◌, ◌<◌}
 use native.Mathlib.Nat.{zero-add}
 use native.Mathlib.Omega.{arith}
-use lib.ListN.{length, take, drop, length-append, length-drop}
-use lib.Seq.{length-take-le, take_at, drop_at, drop-drop, sets, sets-eq}
+use borrow.Rule.Slice.PartMut.{put_mid}
+use lib.ListN.{length, get_or, take, drop, length-append, length-drop, drop_of_length-le}
+use lib.Seq.{length-take-le, take_at, drop_at, drop-drop}
+use Rattle.std.specs.Int.{bytes_low_first}
+use Rattle.files.specs.Bytes.{bytes_of, joined}
 use Rattle.files.specs.Rooms.{covering}
-use Rattle.writer.specs.Puts.{Puts}
+use Rattle.files.proofs.Bytes.{bytes_length, joined_length}
+use Rattle.writer.proofs.Contents.{low_first, joined_more}
 
--- entries stored one after another
-pub puts_stored : (content : List ℕ) {at : ℕ} {room : List ℕ} → at + length content ≤ length room → Puts content at room (sets room at content)
-puts_stored content {at} {room} l = record { inside = l; there = sets-eq content room at l ∙ append_assoc (take at room) content (drop (at + length content) room) }
+-- a content stands at a place inside the memory, and all else is as it was
+pub record Puts (content : List ℕ) (at : ℕ) (before after : List ℕ) : Type 0 where
+  pub inside : at + length content ≤ length before
+  pub there : after ≡ take at before ++ (content ++ drop (at + length content) before)
+
+-- nothing at all
+pub puts_none : (room : List ℕ) → Puts [] 0 room room
+puts_none room = record { inside = omega arith; there = refl }
+
+-- a part of the memory is written, or its beginning
+pub puts_part : (room content : List ℕ) (at n : ℕ) → length content ≡ n → at + n ≤ length room → Puts content at room (put_mid at n room content)
+puts_part room content at n e l = record {
+  inside = omega arith;
+  there = ap (λ back. take at room ++ (content ++ back)) (drop-drop n at room ∙ ap (λ m. drop (at + m) room) (sym e));
+}
+
+pub puts_front : (room content : List ℕ) (n : ℕ) → length content ≡ n → n ≤ length room → Puts content 0 room (content ++ drop n room)
+puts_front room content n e l = record { inside = omega arith; there = ap (λ m. content ++ drop m room) (omega arith) }
 
 -- a content that was put
 module _ {content : List ℕ} {at : ℕ} {before after : List ℕ} (p : Puts content at before after) where
@@ -58,3 +77,22 @@ module _ {content : List ℕ} {at : ℕ} {before after : List ℕ} (p : Puts con
 -- a content at the beginning
 pub puts_whole : {content room after : List ℕ} → Puts content 0 room after → after ≡ covering content room
 puts_whole {content} {room} p = p.there ∙ ap (λ n. content ++ drop n room) (zero-add (length content))
+
+-- .. and up to the end
+pub puts_all : {content room after : List ℕ} → Puts content 0 room after → length room ≤ length content → after ≡ content
+puts_all {content} {room} p l = puts_whole p ∙ ap (λ back. content ++ back) (drop_of_length-le room {i = length content} l) ∙ append-nil content
+
+-- ---- words, eight bytes each
+abbrev pub row_bytes : List ℕ → ℕ → List ℕ
+row_bytes rows a = bytes_of 8 (get_or rows a 0)
+
+pub rows_long : (rows : List ℕ) (k : ℕ) → length (joined k (row_bytes rows)) ≡ 8 * k
+rows_long rows k = joined_length k 8 (row_bytes rows) (λ a. bytes_length 8 (get_or rows a 0))
+
+-- one word more
+pub words_more : (rows file₀ file : List ℕ) (k n : ℕ) (bytes : List ℕ) → Puts (joined k (row_bytes rows)) 0 file₀ file → length file₀ ≡ 8 * length rows
+    → k < length rows → n ≡ 8 → bytes ≡ bytes_low_first 0 8 (get_or rows k 0) → Puts (joined (k + 1) (row_bytes rows)) 0 file₀ (put_mid (8 * k) n file bytes)
+words_more rows file₀ file k n bytes p l m e is =
+    let word : bytes ≡ row_bytes rows k = is ∙ low_first 7 (get_or rows k 0) in
+    puts_then p (omega (arith, rows_long rows k)) (ap (λ b. joined k (row_bytes rows) ++ b) word ∙ joined_more k (row_bytes rows))
+    (puts_part file bytes (8 * k) n (ap length word ∙ bytes_length 8 (get_or rows k 0) ∙ sym e) (omega (arith, puts_length p)))

@@ -1,26 +1,21 @@
-use mathlib.Core.Path.{◌≡◌, sym, ◌∙◌}
-use Prim.Native.Nat.{◌+◌, ◌≤◌}
-use native.Mathlib.Omega.{arith}
-use Rattle.problem.specs.Tables.{listed, lower}
+use Rattle.std.proofs.Common.{◌+◌, ◌≤◌, sym, ◌∙◌, arith}
+use Rattle.problem.specs.Tables.{lower}
 use Rattle.words.proofs.Firsts.{first_le, first_below, first_from, first_here, first_none}
 use Rattle.chains.proofs.pairs_end.Goals as goal
 
 pub loop-k-init : goal.loop-k-init
-loop-k-init c =
-    let a = c.args in
-    (omega arith, omega (arith, first_le a.pairs.now a.boat), λ j l. omega (arith, first_below a.pairs.now a.boat j (omega arith)))
+loop-k-init c j l = omega (arith, first_below c.args.tables.now.pairs c.args.boat j (omega arith))
 
-pub returns-then-lower_of-boat : goal.returns-then-lower_of-boat
-returns-then-lower_of-boat c =
-    let a = c.args in
-    let p = c.requires in
-    let l = c.loop-k in
-    let from : a.boat ≤ lower a.pairs.now l.k = first_from a.pairs.now p.rising a.boat l.k (omega arith) (omega arith) in
-    (omega arith, sym (first_here a.pairs.now (a.boat + 1) l.k (omega arith) l.invariant.2 (omega arith)))
+pub returns-then-lower-boat : goal.returns-then-lower-boat
+returns-then-lower-boat c =
+    let pairs = c.args.tables.now.pairs in
+    let k = c.loop-k.k in
+    let from : c.args.boat ≤ lower pairs k = first_from pairs c.pairs-count.ensures.sane.rising c.args.boat k (omega arith) (omega arith) in
+    (omega arith, sym (first_here pairs (c.args.boat + 1) k (omega arith) c.loop-k.invariant (omega arith)))
 
 pub returns : goal.returns
 returns c =
-    let a = c.args in
-    let l = c.loop-k in
-    let e : l.k ≡ listed a.pairs.now = omega arith in
-    (omega arith, e ∙ sym (first_none a.pairs.now (a.boat + 1) (λ j h. l.invariant.2 j (omega arith))))
+    let pairs = c.args.tables.now.pairs in (
+      omega (arith, first_le pairs c.args.boat),
+      c.pairs-count.ensures.value ∙ sym (first_none pairs (c.args.boat + 1) (λ j h. c.loop-k.invariant j (omega arith))),
+    )

@@ -1,84 +1,59 @@
 -- At every mark the memory holds what was read so far.
-use mathlib.Core.Path.{◌≡◌, sym, ◌∙◌}
-use mathlib.Core.Bool.{true}
-use Prim.Native.Nat.{◌+◌, ◌*◌, ◌≤◌}
+use mathlib.Core.Path.{◌≡◌, sym, ap, ap₂, ◌∙◌}
+use Prim.Native.Nat.{◌+◌, ◌-◌, ◌*◌}
 use native.Mathlib.Omega.{arith}
-use lib.ListN.{length, take, drop, length-set}
-use Rattle.files.specs.File.{PR}
-use Rattle.files.specs.Reading.{same}
+use lib.ListN.{length, take, drop, length-drop}
+use lib.Seq.{length-take-le}
+use Rattle.files.specs.Bytes.{words_of}
 use Rattle.loading.proofs.Second.{second_begins, mark_there, second_ends, lower_there, boat_there, words_there, room, second_steps}
 use Rattle.loading.proofs.fill_pairs.Goals as goal
-use Rattle.loading.proofs.fill_pairs.Goals.{After-byte-slots}
 
--- what is known of the record at hand once its boats and its slots have been looked up
-record Known (c : After-byte-slots) : Type 0 where
-  words : c.loop-boats.at + (4 + 8 * c.byte-slots.result) ≤ length c.args.file.now
-  pair_room : 2 * c.loop-boats.k + 2 ≤ length c.loop-boats.pairs
-  row_room : c.loop-boats.word + c.byte-slots.result ≤ length c.loop-boats.rows
-  few : c.loop-boats.k + c.loop-boats.word ≤ c.loop-boats.at
-
-pub loop-boats-init : goal.loop-boats-init
-loop-boats-init c = second_begins _ _ _ _ c.requires.front
+pub loop-lower-init : goal.loop-lower-init
+loop-lower-init c = second_begins _ _ _ _ c.requires.front
 
 pub is_mark-requires : goal.is_mark-requires
-is_mark-requires c =
-    let l = c.loop-boats in
-    mark_there c.args.file.now c.args.boats c.args.pairs.now c.args.rows.now c.requires l.at l.k l.word l.pairs l.rows l.invariant
+is_mark-requires c = mark_there c.requires c.loop-lower.invariant
 
-pub returns-then-not-is_mark : goal.returns-then-not-is_mark
-returns-then-not-is_mark c =
-    let l = c.loop-boats in
-    second_ends c.args.file.now c.args.boats c.args.pairs.now c.args.rows.now c.requires l.at l.k l.word l.pairs l.rows l.invariant
-    (sym c.is_mark.ensures ∙ c.if-not-is_mark.true)
+pub returns : goal.returns
+returns c = second_ends c.requires c.loop-lower.invariant (sym c.is_mark.ensures ∙ c.loop-lower-test.false)
 
 pub bounds-file-at : goal.bounds-file-at
-bounds-file-at c =
-    let l = c.loop-boats in
-    omega (arith, lower_there c.args.file.now c.args.boats c.args.pairs.now c.args.rows.now c.requires l.at l.k l.word l.pairs l.rows l.invariant (sym c.is_mark.ensures ∙ c.if-not-is_mark.false))
+bounds-file-at c = omega (arith, lower_there c.requires c.loop-lower.invariant (sym c.is_mark.ensures ∙ c.loop-lower-test.true))
 
-pub byte-slots-requires : goal.byte-slots-requires
-byte-slots-requires c =
-    let l = c.loop-boats in
-    omega (
-      arith,
-      boat_there c.args.file.now c.args.boats c.args.pairs.now c.args.rows.now c.requires l.at l.k l.word l.pairs l.rows l.invariant (sym c.is_mark.ensures ∙ c.if-not-is_mark.false) c.wide.result c.wide.ensures.0,
-      c.requires.front,
-    )
+pub bounds-file-lower : goal.bounds-file-lower
+bounds-file-lower c =
+    omega (arith, boat_there c.requires c.loop-lower.invariant (sym c.is_mark.ensures ∙ c.loop-lower-test.true) _ c.from-lower.ensures, c.requires.front)
 
-known : (c : After-byte-slots) → Known c
-known c =
-    let l = c.loop-boats in
-    let is_pr : let a = c.args in same (take 2 (drop l.at a.file.now)) PR ≡ true = sym c.is_mark.ensures ∙ c.if-not-is_mark.false in
-    let r = room c.args.file.now c.args.boats c.args.pairs.now c.args.rows.now c.requires l.at l.k l.word l.pairs l.rows l.invariant is_pr
-    c.wide.result c.wide.ensures.0 c.byte-slots.result c.byte-slots.ensures.0 in
-    record {
-      words = words_there c.args.file.now c.args.boats c.args.pairs.now c.args.rows.now c.requires l.at l.k l.word l.pairs l.rows l.invariant is_pr
-          c.wide.result c.wide.ensures.0 c.byte-slots.result c.byte-slots.ensures.0;
-      pair_room = omega (arith, r.0, l.invariant.pairs_long);
-      row_room = omega (arith, r.1, l.invariant.rows_long);
-      few = l.invariant.mark.few;
-    }
+pub slice_bounds-copy_from_slice-end : goal.slice_bounds-copy_from_slice-end
+slice_bounds-copy_from_slice-end c =
+    omega (arith, (room c.requires c.loop-lower.invariant (sym c.is_mark.ensures ∙ c.loop-lower-test.true) _ c.from-lower.ensures _ c.from-slots.ensures).0)
 
-pub bounds-pairs-k : goal.bounds-pairs-k
-bounds-pairs-k c = let q = known (goal.at.bounds-pairs-k c).After-byte-slots in omega (arith, q.words, q.pair_room)
+pub slice_bounds-copy_from_slice-end-in-loop-lower : goal.slice_bounds-copy_from_slice-end-in-loop-lower
+slice_bounds-copy_from_slice-end-in-loop-lower c =
+    omega (arith, words_there c.requires c.loop-lower.invariant (sym c.is_mark.ensures ∙ c.loop-lower-test.true) _ c.from-lower.ensures _ c.from-slots.ensures)
 
-pub bounds-file-at-in-loop-boats : goal.bounds-file-at-in-loop-boats
-bounds-file-at-in-loop-boats c =
-    let q = known (goal.at.bounds-file-at-in-loop-boats c).After-byte-slots in omega (arith, q.words, q.pair_room)
+pub slice_bounds-fill_rows-end : goal.slice_bounds-fill_rows-end
+slice_bounds-fill_rows-end c =
+    omega (arith, words_there c.requires c.loop-lower.invariant (sym c.is_mark.ensures ∙ c.loop-lower-test.true) _ c.from-lower.ensures _ c.from-slots.ensures)
 
-pub bounds-pairs-k-in-loop-boats : goal.bounds-pairs-k-in-loop-boats
-bounds-pairs-k-in-loop-boats c =
-    let q = known (goal.at.bounds-pairs-k-in-loop-boats c).After-byte-slots in simp length-set (omega (arith, q.pair_room))
+pub slice_bounds-fill_rows-end-in-loop-lower : goal.slice_bounds-fill_rows-end-in-loop-lower
+slice_bounds-fill_rows-end-in-loop-lower c =
+    omega (arith, (room c.requires c.loop-lower.invariant (sym c.is_mark.ensures ∙ c.loop-lower-test.true) _ c.from-lower.ensures _ c.from-slots.ensures).1)
 
-pub fill_rows-requires : goal.fill_rows-requires
-fill_rows-requires c = let q = known (goal.at.fill_rows-requires c).After-byte-slots in (omega (arith, q.words), q.row_room)
-
-pub loop-boats-smaller : goal.loop-boats-smaller
-loop-boats-smaller c =
-    let q = known (goal.at.loop-boats-smaller c).After-byte-slots in omega (arith, q.words, q.few, q.row_room)
-
-pub loop-boats-preserved : goal.loop-boats-preserved
-loop-boats-preserved c =
-    let l = c.loop-boats in
-    second_steps c.args.file.now c.args.boats c.args.pairs.now c.args.rows.now c.requires l.at l.k l.word l.pairs l.rows l.invariant (sym c.is_mark.ensures ∙ c.if-not-is_mark.false)
-    c.wide.result c.wide.ensures.0 c.byte-slots.result c.byte-slots.ensures.0 _ c.fill_rows.ensures
+pub loop-lower-preserved : goal.loop-lower-preserved
+loop-lower-preserved c =
+    let l = c.loop-lower in
+    let s = c.from-slots.result in
+    let two : 2 * l.pair + 2 - 2 * l.pair ≡ 2 = omega arith in
+    let many : l.word + s - l.word ≡ s = omega arith in
+    let next : l.at + 4 + 8 * s ≡ l.at + (4 + 8 * s) = omega arith in
+    let bytes : l.at + 4 - (l.at + 2) ≡ 2 = omega arith in
+    let span : l.at + 4 + 8 * s - (l.at + 4) ≡ 8 * s = omega arith in
+    let room_is : length (take (l.word + s - l.word) (drop l.word l.rows)) ≡ s =
+    ap (λ n. length (take n (drop l.word l.rows))) many
+    ∙ length-take-le s (drop l.word l.rows)
+    (omega (arith, length-drop l.word l.rows, c.loop-lower.auto.rows, (room c.requires l.invariant (sym c.is_mark.ensures ∙ c.loop-lower-test.true) _ c.from-lower.ensures _ c.from-slots.ensures).1)) in
+    rw (two, many, next)
+    (second_steps c.requires l.invariant (sym c.is_mark.ensures ∙ c.loop-lower-test.true) _ c.from-lower.ensures _ c.from-slots.ensures _ _
+    (c.copy_from_slice.ensures.after ∙ ap (λ n. take n (drop (l.at + 2) c.args.file.now)) bytes)
+    (c.fill_rows.ensures ∙ ap₂ (λ m n. words_of m (take n (drop (l.at + 4) c.args.file.now))) room_is span))

@@ -4,8 +4,8 @@ use lib.ListN.{length}
 use Rattle.loading.proofs.Second.{AtPair}
 use Rattle.loading.proofs.fill_pairs.Given as goal
 
-abbrev pub invariant-loop-boats : goal.invariant-loop-boats
-invariant-loop-boats l = AtPair l.file l.boats l.initial.pairs l.initial.rows l.at l.k l.word l.pairs l.rows
+abbrev pub invariant-loop-lower : goal.invariant-loop-lower
+invariant-loop-lower l = AtPair l.file l.boats l.initial.pairs l.initial.rows l.at l.pair l.word l.pairs l.rows
 
-abbrev pub decreases-loop-boats : goal.decreases-loop-boats
-decreases-loop-boats l = length l.file - l.at
+abbrev pub decreases-loop-lower : goal.decreases-loop-lower
+decreases-loop-lower l = length l.file - l.at

@@ -1,11 +1,7 @@
--- One loop: k words are written, and the others are as they were.
-use mathlib.Core.Path.{◌≡◌}
-use Prim.Native.Nat.{◌-◌, ◌≤◌}
-use Rattle.loading.proofs.Filling.{rows_with}
+-- The first k words are read, and the rows after them are as they were.
+use Rattle.files.specs.Bytes.{words_of}
+use Rattle.loading.proofs.Filling.{FirstOf}
 use Rattle.loading.proofs.fill_rows.Given as goal
 
 abbrev pub invariant-loop-k : goal.invariant-loop-k
-invariant-loop-k l = (l.k ≤ l.slots) × (l.rows ≡ rows_with l.file l.at l.initial.rows l.first l.k)
-
-abbrev pub decreases-loop-k : goal.decreases-loop-k
-decreases-loop-k l = l.slots - l.k
+invariant-loop-k l = FirstOf (words_of l.k-end l.words) l.initial.rows l.k l.rows

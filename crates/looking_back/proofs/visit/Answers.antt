@@ -1,15 +1,16 @@
 -- A visit that looks back: its slots are given up one after the other, each by its looks.
-use mathlib.Core.Path.{◌≡◌, refl, sym, ap, ◌∙◌}
+use mathlib.Core.Path.{◌≡◌, sym, ap, ◌∙◌}
 use mathlib.Core.Bool.{Bool}
 use mathlib.Core.List.{List, [], ◌∷◌}
 use mathlib.Core.Option.{none, some}
+use Rattle.std.specs.Prelude.{Option, Some, None}
 use Prim.Native.Nat.{ℕ, ◌+◌, ◌-◌, ◌/◌, ◌%◌, ◌≤◌, ◌<◌}
 use native.Mathlib.Nat.{le_refl}
 use native.Mathlib.Numerals.{add-one}
 use native.Mathlib.Omega.{arith}
 use lib.ListN.{length, get_or, take}
 use lib.Seq.{length-take-le}
-use Rattle.problem.specs.Tables.{Tables, tables, size, place, is_listed, start, bit}
+use Rattle.problem.specs.Tables.{Tables, size, place, is_listed, start, bit}
 use Rattle.problem.specs.declared.Allowance.{Allowance}
 use Rattle.problem.specs.declared.Allowance.TheVariants.{Checks}
 use Rattle.events.specs.declared.Counts.{Counts}
@@ -34,15 +35,13 @@ use Rattle.visits.proofs.Visiting.{in_choices}
 use Rattle.looking_back.specs.Kept.{KeptBack}
 use Rattle.looking_back.proofs.Links.{Next, next, none_left, links_few, link_boat_lem, link_row}
 use Rattle.looking_back.proofs.Trials.{LookedTo, slot_passes, slot_fails, slot_tries}
-use Rattle.looking_back.proofs.visit.Given.{Over}
 use Rattle.looking_back.proofs.visit.Goals as goal
-use Rattle.looking_back.proofs.visit.Goals.{In-Within, Joined-end-at, then-end-at, else-end-at+in-Forbidden}
+use Rattle.looking_back.proofs.visit.Goals.{In-Some, then-loop-at-test+in-Forbidden, else-loop-at-test}
 
--- what the looks of slot a come to: every boat is passed, or one fails
-record AllLooks (t : Tables) (w : List ℕ) (i a : ℕ) (begun k : Counts) (failing : ℕ) : Type 0 where
-  makes : Makes begun (look_back t i a 0 (take i w)).checks k
-  nobody : failing ≡ i → (look_back t i a 0 (take i w)).failing ≡ none
-  somebody : (failing ≡ i → ⊥) → (failing < i) × ((look_back t i a 0 (take i w)).failing ≡ some failing)
+-- what the looks of slot a come to: every boat is passed, or boat h fails
+abbrev AllLooks : Tables → (w : List ℕ) → (i a : ℕ) → (begun k : Counts) → Option ℕ → Type 0
+AllLooks t w i a begun k None = ((look_back t i a 0 (take i w)).failing ≡ none) × Makes begun (look_back t i a 0 (take i w)).checks k
+AllLooks t w i a begun k (Some h) = (h < i) × ((look_back t i a 0 (take i w)).failing ≡ some h) × Makes begun (look_back t i a 0 (take i w)).checks k
 
 module _ {t : Tables} {w : List ℕ} {i : ℕ} {m : Counts} (standing : Standing t w i m) where
   few : i < 64
@@ -93,14 +92,10 @@ module _ {t : Tables} {w : List ℕ} {i : ℕ} {m : Counts} (standing : Standing
 
       -- it fails
       one_fails : (r : Look) (k : Counts) → r ≡ checked_look (bit (get_or t.rows (found / 64 + word w (found % 64)) 0) a) (check_counted n) → r ≡ Forbidden k →
-          AllLooks t w i a begun k (found % 64)
+          AllLooks t w i a begun k (Some (found % 64))
       one_fails r k e f =
           let z = looks_forbidden short looking_there there.below r k (look_there r e) f in
-          record {
-            makes = z.1;
-            nobody = λ g. absurd (omega (arith, g, named, there.below));
-            somebody = λ _. (omega (arith, named, there.below), rw named z.0);
-          }
+          rw named (there.below, z.0, z.1)
 
       -- its check is not covered
       out_there : (r : Look) → r ≡ checked_look (bit (get_or t.rows (found / 64 + word w (found % 64)) 0) a) (check_counted n) → r ≡ OutOfChecks →
@@ -108,10 +103,8 @@ module _ {t : Tables} {w : List ℕ} {i : ℕ} {m : Counts} (standing : Standing
       out_there r e f = looks_out short looking_there there.below (sym (look_there r e) ∙ f)
 
     -- none is left
-    all_passed : {a at : ℕ} {begun n : Counts} → LookedTo t w i a (word w (193 + i)) begun at n → word w (193 + i) ≤ at → AllLooks t w i a begun n i
-    all_passed looked done =
-        let z = looks_end short (none_left t w i short looked.links done looked.looking) (le_refl _) in
-        record { makes = z.1; nobody = λ _. z.0; somebody = λ n. absurd (n refl) }
+    all_passed : {a at : ℕ} {begun n : Counts} → LookedTo t w i a (word w (193 + i)) begun at n → word w (193 + i) ≤ at → AllLooks t w i a begun n None
+    all_passed looked done = looks_end short (none_left t w i short looked.links done looked.looking) (le_refl _)
 
   -- ---- slot a is reached, with s as the boat's set
   module _ (backward : Backward) {from : ℕ} (with : ℕ) {a : ℕ} (s : ℕ) {start n : Counts} (in_size : a < size t.sizes i)
@@ -149,130 +142,126 @@ module _ {t : Tables} {w : List ℕ} {i : ℕ} {m : Counts} (standing : Standing
           makes = makes;
         }
 
--- a look, at the rows of the tables
-look_is : (g : Over) {sizes pairs rows : List ℕ} → tables sizes pairs rows ≡ g.t → {r : Look} (at slot : ℕ) (n : Counts) → r ≡ checked_look (bit (get_or rows at 0) slot) (check_counted n) →
-    r ≡ checked_look (bit (get_or g.t.rows at 0) slot) (check_counted n)
-look_is g e at slot n f = f ∙ ap (λ (t : Tables). checked_look (bit (get_or t.rows at 0) slot) (check_counted n)) e
-
 -- what the code knows where a slot is tried
-module _ (g : Over) (c : In-Within g) where
-  in_size : c.loop-slot.slot < size g.t.sizes c.args.i
-  in_size = omega (arith, c.size_of-size.ensures.0, ap (λ (t : Tables). size t.sizes c.args.i) c.requires.0)
+module _ (c : In-Some) where
+  in_size : c.loop-slot.slot < size c.args.tables.now.sizes c.args.i
+  in_size = omega (arith, c.size-size.ensures.value, c.loop-slot-test.true)
 
-  at_trial : Makes c.loop-slot.counts (trial c.args.i c.loop-slot.slot ∷ []) c.in-Within.k
-  at_trial = makes_trial _ _ (c.loop-slot.invariant.comes OneBack).makes.fits c.args.i c.loop-slot.slot (sym c.in-Within.ensures)
-
--- what it knows behind the looks
-all_looks : (g : Over) (c : Joined-end-at g) → AllLooks g.t c.args.work.now c.args.i c.loop-slot.slot c.in-Within.k c.if-end-at.counts c.if-end-at.failing
-all_looks g c =
-    elim c.if-end-at.branch [
-      | then-end-at w ↦ rw (w.counts-is, w.failing-is) (all_passed c.requires.1.0 c.requires.1.1.0 c.boats.invariant w.if-end-at.true)
-      | else-end-at+in-Forbidden w ↦
-          rw (w.counts-is, w.failing-is)
-          (one_fails c.requires.1.0 c.requires.1.1.0 c.boats.invariant w.if-end-at.false _ _ (look_is g c.requires.0 _ _ _ w.check_row.ensures) w.in-Forbidden.is)
-    ]
+  at_trial : Makes c.loop-slot.counts (trial c.args.i c.loop-slot.slot ∷ []) c.in-Some.tried
+  at_trial = makes_trial _ _ (c.loop-slot.invariant.comes OneBack).makes.fits c.args.i c.loop-slot.slot (sym c.in-Some.ensures)
 
 pub loop-slot-init : goal.loop-slot-init
-loop-slot-init g c = record { below = c.requires.1.1.1; comes = λ backward. come_here _ _ c.requires.1.0.fits }
+loop-slot-init c = record { below = c.requires.with_bound; comes = λ backward. come_here _ _ c.requires.standing.fits }
 
-pub returns-in-Out : goal.returns-in-Out
-returns-in-Out g c = λ backward.
+pub returns-in_default : goal.returns-in_default
+returns-in_default c = λ backward.
     record {
       below = c.loop-slot.invariant.below;
-      ends = stopped c.requires.1.0 backward _ _ (omega (arith, c.size_of-size.ensures.0, ap (λ (t : Tables). size t.sizes c.args.i) c.requires.0)) (c.loop-slot.invariant.comes backward)
-          (trial_stops _ (c.loop-slot.invariant.comes backward).makes.fits _ _ _ (sym c.in-Out.ensures));
+      ends = stopped c.requires.standing backward _ _ (omega (arith, c.size-size.ensures.value, c.loop-slot-test.true)) (c.loop-slot.invariant.comes backward)
+          (trial_stops _ (c.loop-slot.invariant.comes backward).makes.fits _ _ _ (sym c.in_default.ensures));
     }
 
-pub boats-init : goal.boats-init
-boats-init g c =
+pub loop-at-init : goal.loop-at-init
+loop-at-init c =
     record {
       h = 0;
-      links = c.requires.1.1.0.linked.links c.args.i c.requires.1.0.boat;
-      looking = looks_begin g.t c.args.work.now c.args.i c.loop-slot.slot 0 _ (at_trial g c).fits;
+      links = c.requires.kept_back.linked.links c.args.i c.requires.standing.boat;
+      looking = looks_begin c.args.tables.now c.args.work.now c.args.i c.loop-slot.slot 0 _ (at_trial (goal.at.loop-at-init c).In-Some).fits;
     }
 
 pub overflow_add-link : goal.overflow_add-link
-overflow_add-link g c = omega (arith, few_links c.requires.1.0 c.requires.1.1.0, c.if-end-at.false)
+overflow_add-link c = omega (arith, few_links c.requires.standing c.requires.kept_back, c.loop-at-test.true)
 
 pub offset_bounds-work-at : goal.offset_bounds-work-at
-offset_bounds-work-at g c = omega (arith, few_links c.requires.1.0 c.requires.1.1.0, c.if-end-at.false)
+offset_bounds-work-at c = omega (arith, few_links c.requires.standing c.requires.kept_back, c.loop-at-test.true)
 
 pub bounds-work-at : goal.bounds-work-at
-bounds-work-at g c = omega (arith, few_links c.requires.1.0 c.requires.1.1.0, c.if-end-at.false, c.requires.1.0.room)
+bounds-work-at c = omega (arith, few_links c.requires.standing c.requires.kept_back, c.loop-at-test.true, c.requires.standing.room)
 
 pub overflow_add-row : goal.overflow_add-row
-overflow_add-row g c =
-    omega (arith, row_inside c.requires.1.0 c.requires.1.1.0 c.boats.invariant c.if-end-at.false, ap (λ (t : Tables). length t.rows) c.requires.0)
+overflow_add-row c =
+    omega (arith, row_inside c.requires.standing c.requires.kept_back c.loop-at.invariant c.loop-at-test.true, ap length c.row_words-rows.ensures)
 
 pub offset_bounds-rows-link : goal.offset_bounds-rows-link
-offset_bounds-rows-link g c =
-    omega (arith, row_inside c.requires.1.0 c.requires.1.1.0 c.boats.invariant c.if-end-at.false, ap (λ (t : Tables). length t.rows) c.requires.0)
+offset_bounds-rows-link c =
+    omega (arith, row_inside c.requires.standing c.requires.kept_back c.loop-at.invariant c.loop-at-test.true, ap length c.row_words-rows.ensures)
 
 pub bounds-rows-link : goal.bounds-rows-link
-bounds-rows-link g c =
-    rw (ap (λ (t : Tables). t.rows) c.requires.0) (row_inside c.requires.1.0 c.requires.1.1.0 c.boats.invariant c.if-end-at.false)
+bounds-rows-link c = rw c.row_words-rows.ensures (row_inside c.requires.standing c.requires.kept_back c.loop-at.invariant c.loop-at-test.true)
 
 pub overflow_add-made : goal.overflow_add-made
-overflow_add-made g c =
-    let s = c.requires.1.0 in
-    let out = out_there s c.requires.1.1.0 c.boats.invariant c.if-end-at.false _ (look_is g c.requires.0 _ _ _ c.check_row.ensures) c.in-OutOfChecks.is in
-    omega (arith, few s, looks_made_few g.t c.args.work.now c.args.i c.loop-slot.slot 0 (short s) out)
+overflow_add-made c =
+    let s = c.requires.standing in
+    let out = out_there s c.requires.kept_back c.loop-at.invariant c.loop-at-test.true _ (rw c.row_words-rows.ensures at c.check_row.ensures) c.in-OutOfChecks.is in
+    omega (arith, few s, looks_made_few c.args.tables.now c.args.work.now c.args.i c.loop-slot.slot 0 (short s) out)
 
 pub returns-in-OutOfChecks : goal.returns-in-OutOfChecks
-returns-in-OutOfChecks g c = λ backward.
-    let s = c.requires.1.0 in
-    let out = out_there s c.requires.1.1.0 c.boats.invariant c.if-end-at.false _ (look_is g c.requires.0 _ _ _ c.check_row.ensures) c.in-OutOfChecks.is in
-    let at = (goal.at.returns-in-OutOfChecks g c).In-Within in
+returns-in-OutOfChecks c = λ backward.
+    let s = c.requires.standing in
+    let out = out_there s c.requires.kept_back c.loop-at.invariant c.loop-at-test.true _ (rw c.row_words-rows.ensures at c.check_row.ensures) c.in-OutOfChecks.is in
+    let at = (goal.at.returns-in-OutOfChecks c).In-Some in
     record {
       below = c.loop-slot.invariant.below;
-      ends = stopped s backward _ _ (in_size g at) (c.loop-slot.invariant.comes backward) (stops_behind (at_trial g at) out);
+      ends = stopped s backward _ _ (in_size at) (c.loop-slot.invariant.comes backward) (stops_behind (at_trial at) out);
     }
 
-pub boats-preserved : goal.boats-preserved
-boats-preserved g c =
-    let s = c.requires.1.0 in
-    let k = c.requires.1.1.0 in
-    let x = c.boats.invariant in
-    let n = there s k x c.if-end-at.false in
+pub loop-at-preserved : goal.loop-at-preserved
+loop-at-preserved c =
+    let s = c.requires.standing in
+    let k = c.requires.kept_back in
+    let x = c.loop-at.invariant in
+    let n = there s k x c.loop-at-test.true in
     record {
       h = n.boat + 1;
       links = rw (add-one, add-one) n.rest;
-      looking = looks_allowed (short s) (looking_there s k x c.if-end-at.false) n.below _ _
-          (look_there s k x c.if-end-at.false _ (look_is g c.requires.0 _ _ _ c.check_row.ensures)) c.in-Allowed.is;
+      looking = looks_allowed (short s) (looking_there s k x c.loop-at-test.true) n.below _ _
+          (look_there s k x c.loop-at-test.true _ (rw c.row_words-rows.ensures at c.check_row.ensures)) c.in-Allowed.is;
     }
 
-pub returns-then-failing-i : goal.returns-then-failing-i
-returns-then-failing-i g c = λ backward.
-    let at = (goal.at.returns-then-failing-i g c).In-Within in
-    let z = all_looks g (goal.at.returns-then-failing-i g c).Joined-end-at in
+pub returns-in_default-failing : goal.returns-in_default-failing
+returns-in_default-failing c = λ backward.
+    let at = (goal.at.returns-in_default-failing c).In-Some in
+    let looks : AllLooks c.args.tables.now c.args.work.now c.args.i c.loop-slot.slot c.in-Some.tried c.loop-at-test.counts c.loop-at-test.failing =
+    elim c.loop-at-test.branch [
+      | then-loop-at-test+in-Forbidden w ↦
+          rw (w.counts-is, w.failing-is)
+          (one_fails c.requires.standing c.requires.kept_back c.loop-at.invariant w.loop-at-test.true _ _ (rw c.row_words-rows.ensures at w.check_row.ensures) w.in-Forbidden.is)
+      | else-loop-at-test w ↦ rw (w.counts-is, w.failing-is) (all_passed c.requires.standing c.requires.kept_back c.loop-at.invariant w.loop-at-test.false)
+    ] in
+    let z = rw c.in_default-failing.is at looks in
     record {
       below = c.loop-slot.invariant.below;
-      ends = passed c.requires.1.0 backward _ _ (in_size g at) (c.loop-slot.invariant.comes backward) (z.nobody c.if-failing-i.true) (makes_append (at_trial g at) z.makes);
+      ends = passed c.requires.standing backward _ _ (in_size at) (c.loop-slot.invariant.comes backward) z.0 (makes_append (at_trial at) z.1);
     }
 
 pub loop-slot-preserved : goal.loop-slot-preserved
-loop-slot-preserved g c =
-    let s = c.requires.1.0 in
-    let at = (goal.at.loop-slot-preserved g c).In-Within in
-    let z = all_looks g (goal.at.loop-slot-preserved g c).Joined-end-at in
-    let f = z.somebody c.if-failing-i.false in
+loop-slot-preserved c =
+    let s = c.requires.standing in
+    let at = (goal.at.loop-slot-preserved c).In-Some in
+    let looks : AllLooks c.args.tables.now c.args.work.now c.args.i c.loop-slot.slot c.in-Some.tried c.loop-at-test.counts c.loop-at-test.failing =
+    elim c.loop-at-test.branch [
+      | then-loop-at-test+in-Forbidden w ↦
+          rw (w.counts-is, w.failing-is)
+          (one_fails c.requires.standing c.requires.kept_back c.loop-at.invariant w.loop-at-test.true _ _ (rw c.row_words-rows.ensures at w.check_row.ensures) w.in-Forbidden.is)
+      | else-loop-at-test w ↦ rw (w.counts-is, w.failing-is) (all_passed c.requires.standing c.requires.kept_back c.loop-at.invariant w.loop-at-test.false)
+    ] in
+    let z = rw c.in-Some-failing.is at looks in
     record {
-      below = c.with_member-set.ensures.below c.args.i f.0 c.loop-slot.invariant.below;
+      below = c.with_member-set.ensures.below c.args.i z.0 c.loop-slot.invariant.below;
       comes = λ backward.
           rw add-one
-          (come_more g.t _ (c.loop-slot.invariant.comes backward)
-          (slot_fails g.t backward c.args.work.now c.args.i (short s) s.boat _ _ (in_size g at) _ _ f.1 c.with_member-set.ensures) (makes_append (at_trial g at) z.makes));
+          (come_more c.args.tables.now _ (c.loop-slot.invariant.comes backward)
+          (slot_fails c.args.tables.now backward c.args.work.now c.args.i (short s) s.boat _ _ (in_size at) _ _ z.1 c.with_member-set.ensures) (makes_append (at_trial at) z.2));
     }
 
 pub returns : goal.returns
-returns g c = λ backward.
-    let s = c.requires.1.0 in
+returns c = λ backward.
+    let s = c.requires.standing in
     record {
       below = c.loop-slot.invariant.below;
       ends = record {
         last = c.loop-slot.slot;
-        none = rw (length-take-le c.args.i c.args.work.now (short s), choices_size g.t c.args.i)
-            (omega (arith, c.size_of-size.ensures.0, ap (λ (t : Tables). size t.sizes c.args.i) c.requires.0));
+        none = rw (length-take-le c.args.i c.args.work.now (short s), choices_size c.args.tables.now c.args.i) (omega (arith, c.size-size.ensures.value, c.loop-slot-test.false));
         comes = c.loop-slot.invariant.comes backward;
       };
     }

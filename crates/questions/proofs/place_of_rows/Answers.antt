@@ -1,67 +1,28 @@
 -- The examination says whether the tables are fine, and the place of the pair whether it is listed.
-use mathlib.Core.Path.{◌≡◌, sym, ap, ◌∙◌}
+use mathlib.Core.Path.{ap}
 use native.Mathlib.Omega.{arith}
-use Rattle.problem.specs.Tables.{Tables, tables}
-use Rattle.tables.specs.declared.Examined.TheVariants.{Fine}
-use Rattle.tables.specs.Examination.{examination}
-use Rattle.tables.specs.Replies.{examined_told}
-use Rattle.tables.proofs.Fine.{fine_sane}
-use Rattle.questions.proofs.Shown.{shown_refused, shown_unlisted, shown_summable, shown_named, shown_listed}
+use lib.ListN.{length}
+use Rattle.problem.specs.Tables.{Tables}
+use Rattle.questions.proofs.Shown.{is_fine, shown_refused, shown_unlisted, shown_named, shown_within, shown_listed}
 use Rattle.questions.proofs.place_of_rows.Goals as goal
 
-pub place_of-pair-requires : goal.place_of-pair-requires
-place_of-pair-requires c =
-    let T : Tables =
-    let a = c.args in tables a.sizes.now a.pairs.now a.rows.now in
-    let fine : examined_told (Fine c.in-Fine.p) ≡ examination T =
-    sym (ap examined_told c.in-Fine.is) ∙ c.examine.ensures in
-    (fine_sane _ (ap (λ w. w.number) (sym fine))).rising
+pub returns-in_default : goal.returns-in_default
+returns-in_default c = shown_refused _ _ _ _ c.in_default.ensures.told
 
-pub start_of-from-requires : goal.start_of-from-requires
-start_of-from-requires c =
-    let T : Tables =
-    let a = c.args in tables a.sizes.now a.pairs.now a.rows.now in
-    let fine : examined_told (Fine c.in-Fine.p) ≡ examination T =
-    sym (ap examined_told c.in-Fine.is) ∙ c.examine.ensures in
-    let s = shown_summable _ _ _ fine c.place_of-pair.ensures c.if-pair-count.true in
-    record { pairs_len_bound = s.0; pair_bound = s.1.0; by_index = s.1.1 }
+pub returns-in_default-place : goal.returns-in_default-place
+returns-in_default-place c =
+    let fine = is_fine c.in-Ok.ensures.told c.in-Ok.ensures.same in
+    rw (← c.in-Ok.ensures.same) (shown_unlisted _ _ _ fine c.in_default-place.ensures)
 
-pub size_of-requires : goal.size_of-requires
-size_of-requires c =
-    let T : Tables =
-    let a = c.args in tables a.sizes.now a.pairs.now a.rows.now in
-    let fine : examined_told (Fine c.in-Fine.p) ≡ examination T =
-    sym (ap examined_told c.in-Fine.is) ∙ c.examine.ensures in
-    shown_named _ _ _ fine c.place_of-pair.ensures
-    c.if-pair-count.true
+pub size-requires : goal.size-requires
+size-requires c = shown_named _ _ _ (is_fine c.in-Ok.ensures.told c.in-Ok.ensures.same) c.in-Some.ensures
 
 pub overflow_add-to : goal.overflow_add-to
 overflow_add-to c =
-    let T : Tables =
-    let a = c.args in tables a.sizes.now a.pairs.now a.rows.now in
-    let fine : examined_told (Fine c.in-Fine.p) ≡ examination T =
-    sym (ap examined_told c.in-Fine.is) ∙ c.examine.ensures in
-    let s = shown_summable _ _ _ fine c.place_of-pair.ensures c.if-pair-count.true in
-    omega arith
+    let fine = is_fine c.in-Ok.ensures.told c.in-Ok.ensures.same in
+    omega (arith, ap (λ (t : Tables). length t.rows) c.in-Ok.ensures.same, shown_within _ _ _ fine c.in-Some.ensures c.start-from.ensures c.size.ensures.value)
 
-pub returns-in-Refused : goal.returns-in-Refused
-returns-in-Refused c =
-    shown_refused _ _ _ (ap examined_told c.in-Refused.is)
-    c.examine.ensures (omega arith)
-
-pub returns-then-pair-count : goal.returns-then-pair-count
-returns-then-pair-count c =
-    let T : Tables =
-    let a = c.args in tables a.sizes.now a.pairs.now a.rows.now in
-    let fine : examined_told (Fine c.in-Fine.p) ≡ examination T =
-    sym (ap examined_told c.in-Fine.is) ∙ c.examine.ensures in
-    shown_listed _ _ _ fine c.place_of-pair.ensures
-    c.if-pair-count.true c.start_of-from.ensures.0 c.size_of.ensures.0
-
-pub returns-else-pair-count : goal.returns-else-pair-count
-returns-else-pair-count c =
-    let T : Tables =
-    let a = c.args in tables a.sizes.now a.pairs.now a.rows.now in
-    let fine : examined_told (Fine c.in-Fine.p) ≡ examination T =
-    sym (ap examined_told c.in-Fine.is) ∙ c.examine.ensures in
-    shown_unlisted _ _ _ fine c.place_of-pair.ensures c.if-pair-count.false
+pub returns : goal.returns
+returns c =
+    let fine = is_fine c.in-Ok.ensures.told c.in-Ok.ensures.same in
+    rw (← c.in-Ok.ensures.same) (shown_listed _ _ _ fine c.in-Some.ensures c.start-from.ensures c.size.ensures.value)

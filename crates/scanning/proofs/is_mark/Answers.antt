@@ -1,25 +1,14 @@
--- Both bytes are looked at, the second where the first is the mark's.
-use mathlib.Core.Path.{refl, sym, ap, ◌∙◌}
-use mathlib.Core.Bool.{◌&&◌}
-use Prim.Native.Nat.{◌+◌}
+-- The slice that is compared is two bytes long.
+use mathlib.Core.Path.{◌≡◌, ap, ◌∙◌}
+use Prim.Native.Nat.{◌+◌, ◌-◌}
 use native.Mathlib.Omega.{arith}
-use borrow.Author.Tests.{eq-eqb, ne_eqb}
-use lib.Dec.{eqb}
-use lib.ListN.{get_or}
+use lib.ListN.{take, drop}
+use Rattle.files.specs.Reading.{same}
 use Rattle.scanning.proofs.Meeting.{mark_tested}
 use Rattle.scanning.proofs.is_mark.Goals as goal
 
-pub returns-then-file-at : goal.returns-then-file-at
-returns-then-file-at c =
+pub returns : goal.returns
+returns c =
     let a = c.args in
-    let e = eq-eqb (get_or a.file.now a.at 0) a.first c.if-file-at.true in
-    ap (λ b. b && eqb (get_or a.file.now (a.at + 1) 0) a.second) (sym e)
-    ∙ mark_tested a.file.now a.at a.first a.second _ _ (omega arith) refl refl
-
-pub returns-else-file-at : goal.returns-else-file-at
-returns-else-file-at c =
-    let a = c.args in
-    let e = ne_eqb (get_or a.file.now a.at 0) a.first c.if-file-at.false in
-    e
-    ∙ ap (λ b. b && eqb (get_or a.file.now (a.at + 1) 0) a.second) (sym e)
-    ∙ mark_tested a.file.now a.at a.first a.second _ _ (omega arith) refl refl
+    let two : a.at + 2 - a.at ≡ 2 = omega arith in
+    c.eq.ensures ∙ mark_tested _ a.mark.now ∙ ap (λ n. same (take n (drop a.at a.file.now)) a.mark.now) two

@@ -11,18 +11,11 @@ use Rattle.searching.proofs.search.Goals as goal
 
 pub prepare-requires : goal.prepare-requires
 prepare-requires g c =
-    let pre = rw (← c.requires.0) at c.requires.1 in (
-      c.requires.0,
-      rw (← c.requires.0) (let w = c.args.work.now in (
-        pre.0,
-        (
-          omega (arith, ap length c.clear.ensures, zeroed_long 8192 w pre.1.0, pre.1.0),
-          (λ k lo hi. ap (λ (v : List ℕ). word v k) c.clear.ensures ∙ zeroed_at 8192 k w hi),
-        ),
-      )),
+    let w = c.args.work.now in
+    let room = c.requires.used_in_bounds in (
+      omega (arith, ap length c.clear.ensures, zeroed_long 8192 w room, room),
+      λ k lo hi. ap (λ (v : List ℕ). word v k) c.clear.ensures ∙ zeroed_at 8192 k w hi,
     )
 
 pub returns : goal.returns
-returns g c =
-    let pre = rw (← c.requires.0) at c.requires.1 in
-    rw (← c.requires.0) (from_start _ _ _ _ _ _ _ _ (rw c.clear.ensures (zeroed_only 8192 c.args.work.now pre.1.0)) (rw (← c.requires.0) at c.prepare.ensures) (rw (← c.requires.0) at c.walk.ensures))
+returns g c = from_start _ _ _ _ _ _ _ _ (rw c.clear.ensures (zeroed_only 8192 c.args.work.now c.requires.used_in_bounds)) c.prepare.ensures c.walk.ensures

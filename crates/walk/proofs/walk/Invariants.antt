@@ -8,13 +8,8 @@ use Rattle.walk.proofs.walk.Given as goal
 abbrev pub invariant-loop-i : goal.invariant-loop-i
 invariant-loop-i g l =
     let w = l.initial.work in
-    Underway l.moves g.t (take l.boat w) l.from (memory l.moves w l.boat) w l.initial.counts l.work l.i l.slot l.counts
+    let moves = g.M.Moving.moves in
+    Underway moves l.tables (take l.boat w) l.from (memory moves w l.boat) w l.initial.counts l.work l.i l.slot l.counts
 
 abbrev pub decreases-loop-i : goal.decreases-loop-i
-decreases-loop-i g l = steps_left_of g.t (take l.i l.work) l.slot
-
-abbrev pub ghost-label : goal.ghost-label
-ghost-label g a = g.t
-
-abbrev pub ghost-unlabel : goal.ghost-unlabel
-ghost-unlabel g a = g.t
+decreases-loop-i g l = steps_left_of l.tables (take l.i l.work) l.slot

@@ -1,17 +1,8 @@
--- A refusal of the tables is the writer's too; tables that are fine are sane, and their file is written.
-use mathlib.Core.Path.{refl}
-use mathlib.Core.Path.{sym, ap, ◌∙◌}
-use native.Mathlib.Omega.{arith}
-use Rattle.tables.specs.Replies.{examined_told}
-use Rattle.tables.proofs.Fine.{fine_sane}
-use Rattle.writer.proofs.Answers.{examined_refused}
+-- A refusal of the tables is the writer's too.
+use Rattle.writer.proofs.Answers.{refused_written}
 use Rattle.writer.proofs.write.Goals as goal
 
-pub write_fine-requires : goal.write_fine-requires
-write_fine-requires c =
-    (refl, fine_sane _ (ap (λ w. w.number) (sym c.examine.ensures ∙ ap examined_told c.in-Fine.is)))
-
-pub returns-in-Refused : goal.returns-in-Refused
-returns-in-Refused c =
-    let s = examined_refused _ _ (ap examined_told (sym c.in-Refused.is) ∙ c.examine.ensures) (omega arith) in
+pub returns-in_err-tables : goal.returns-in_err-tables
+returns-in_err-tables c =
+    let s = refused_written _ _ c.from_residual.result _ c.from_residual.ensures.1 c.in_err-tables.ensures.told in
     record { result_value = s.0; file_after = s.1 }

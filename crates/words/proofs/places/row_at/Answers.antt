@@ -1,6 +1,6 @@
 -- The formula of the triangular numbers.
 use native.Mathlib.Omega.{arith}
-use Rattle.words.proofs.Triangle.{tri_twice, tri_small}
+use Rattle.words.proofs.Triangle.{tri_twice}
 use Rattle.words.proofs.places.row_at.Goals as goal
 
 pub returns : goal.returns

@@ -1,6 +1,4 @@
 -- From the count of leading zeros.
-use native.Mathlib.Omega.{arith}
-use lib.Count.{leading_le}
 use Rattle.words.proofs.Bits.{deepest_top}
 use Rattle.words.proofs.sets.deepest_of.Goals as goal
 

@@ -1,5 +1,4 @@
 -- The union less its deepest member is what lies below that member.
-use borrow.Author.Rules.{rules}
 use native.Mathlib.Omega.{arith}
 use Rattle.words.proofs.Bits.{shl_one, or_ge, handed}
 use Rattle.words.proofs.sets.handed_down.Goals as goal

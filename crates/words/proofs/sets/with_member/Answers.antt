@@ -1,5 +1,4 @@
 -- The union with a single boat.
-use borrow.Author.Rules.{rules}
 use Rattle.words.proofs.Bits.{shl_one, inserted}
 use Rattle.words.proofs.sets.with_member.Goals as goal
 

@@ -2,7 +2,6 @@
 use mathlib.Core.Bool.{Bool, true, false}
 use Prim.Native.Nat.{ℕ, ◌*◌, ◌%◌, ◌^◌, ◌<◌}
 use native.Mathlib.Nat.{zero-mul}
-use borrow.Author.Rules.{rules}
 use lib.Bits.{bit_or, or_zero_r}
 use mir.Val.{bool_byte}
 use Rattle.words.specs.Sets.{WithMemberIf}

@@ -1,6 +1,0 @@
--- What is left of the text falls.
-use Rattle.std.proofs.Common.{◌-◌, length}
-use Rattle.vectors.proofs.all_groups.Given as goal
-
-abbrev pub decreases-loop-at : goal.decreases-loop-at
-decreases-loop-at g l = length l.text - l.at

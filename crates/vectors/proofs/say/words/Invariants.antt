@@ -1,6 +1,0 @@
--- The words left fall.
-use Rattle.std.proofs.Common.{◌-◌, length}
-use Rattle.vectors.proofs.say.words.Given as goal
-
-abbrev pub decreases-loop-k : goal.decreases-loop-k
-decreases-loop-k g l = length l.shown - l.k
