@@ -12,6 +12,8 @@ use moving::Moving;
 use tables::FineTables;
 
 // The words are cleared first.
+// A function for each method, and not one of all of them: they would leave one another too few registers.
+#[inline(never)]
 pub fn search<M: Moving>(tables: &FineTables, start: Counts, work: &mut [u64]) -> Ended
     requires used_in_bounds { used ≤ length work.old }
     requires fits { Fits start }
