@@ -27,7 +27,7 @@ abbrev IndexedTo : Tables → (k : ℕ) → List ℕ → Type 0
 IndexedTo t k w = (h i : ℕ) → h < i → i < boats t → word w (512 + tri i + h) ≡ indexed_at t k (place t.pairs h i)
 
 -- where the word of pair k is
-abbrev index_place : Tables → ℕ → ℕ
+abbrev pub index_place : Tables → ℕ → ℕ
 index_place t k = 512 + tri (higher t.pairs k) + lower t.pairs k
 
 abbrev index_put : Tables → (k : ℕ) → List ℕ → List ℕ
@@ -63,7 +63,7 @@ module _ {t : Tables} (s : Sane t) where
   within : (h i : ℕ) → h < i → i < boats t → 512 + tri i + h < 4096
   within h i lh li = omega (arith, tri_small i (omega arith))
 
-  index_place_lt : (k : ℕ) → k < listed t.pairs → index_place t k < 4096
+  pub index_place_lt : (k : ℕ) → k < listed t.pairs → index_place t k < 4096
   index_place_lt k l = within (lower t.pairs k) (higher t.pairs k) (s.lower_first k l) (s.boats_named k l)
 
   -- no other pair's word is where pair k's is

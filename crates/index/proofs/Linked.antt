@@ -37,7 +37,7 @@ pub record LinkedTo (t : Tables) (w₀ w : List ℕ) (at i : ℕ) : Type 0 where
   pub only : ChangedOnly 192 4096 w₀ w
 
 module _ {t : Tables} (s : Sane t) {w₀ w : List ℕ} {at i : ℕ} (b : LinkedTo t w₀ w at i) where
-  linked_at : at ≤ tri i
+  pub linked_at : at ≤ tri i
   linked_at = omega (arith, b.few i (omega arith), b.to_come)
 
   -- once boat i's links are made, and where they end is the next boat's word

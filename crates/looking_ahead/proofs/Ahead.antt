@@ -69,7 +69,7 @@ module _ {backward : Backward} {t : Tables} {w : List ℕ} {i : ℕ} (ready : Re
   pub is_live_word : word w (word w (448 + i)) ≡ left_word t w i i
   is_live_word = ap (word w) (ready.kept.chained.last i ready.boat)
 
-  short : i ≤ length w
+  pub short : i ≤ length w
   short = omega (arith, ready.sane.few_boats, ready.boat, ready.room)
 
   long : length (take i w) ≡ i
@@ -85,7 +85,7 @@ module _ {backward : Backward} {t : Tables} {w : List ℕ} {i : ℕ} (ready : Re
     pub kept_chained : Chained t v
     kept_chained = chained_stays t w v ready.sane (same_before o (omega arith)) ready.kept.chained
 
-    sweepable : (a : ℕ) → a < size t.sizes i → Sweepable t v i a
+    pub sweepable : (a : ℕ) → a < size t.sizes i → Sweepable t v i a
     sweepable a la =
         record {
           sane = ready.sane;
@@ -157,7 +157,7 @@ module _ {backward : Backward} {t : Tables} {w : List ℕ} {i : ℕ} (ready : Re
       by (no n) = record { last = size t.sizes i; here = λ y. absurd (omega arith); none = λ _. le_refl _; comes = to (size t.sizes i) la (le_refl _) (omega arith) }
 
   -- up to the next live slot
-  due_next : (a s b : ℕ) {k : Counts} → NextLive (left_word t w i i) a b → Comes t w i backward a₀ s₀ m a s k → DueAt t w i backward a₀ s₀ m b s k
+  pub due_next : (a s b : ℕ) {k : Counts} → NextLive (left_word t w i i) a b → Comes t w i backward a₀ s₀ m a s k → DueAt t w i backward a₀ s₀ m b s k
   due_next a s b {k} n c = by (dec_le a (size t.sizes i))
     where
       by : Dec (a ≤ size t.sizes i) → DueAt t w i backward a₀ s₀ m b s k

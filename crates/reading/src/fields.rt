@@ -1,9 +1,8 @@
 // The fields of a line, read one after another.
-ghost use Rattle.std.specs.Prelude.{◌≡◌, ◌+◌, ◌<◌, length, IfNone, OnSome};
+ghost use Rattle.std.specs.Prelude.{◌≡◌, ◌+◌, ◌<◌, ◌≤◌, length, IfNone, OnSome};
 ghost use Rattle.reading.specs.Texts.{past_mark};
 
 use crate::Base;
-use std::array;
 use std::marker::Model;
 
 // What is left of the text: no field goes past the end of its line.
@@ -72,9 +71,26 @@ impl<'a> Fields<'a> {
         value
     }
 
+    // How many bytes the field at hand has, up to a space or the end of its line.
+    pub fn width(&self) -> usize
+        ensures { result ≤ length self.now }
+    {
+        let end = self
+            .left
+            .iter()
+            .position(|byte| *byte == b' ' || *byte == b'\n');
+        end.unwrap_or(self.left.len())
+    }
+
     // So many decimal numbers; each that is missing is 0.
-    pub fn numbers<const N: usize>(&mut self) -> [u64; N] {
+    pub fn numbers<const N: usize>(&mut self) -> [u64; N]
+        ensures { length self.new ≤ length self.old }
+    {
         self.past(b' ');
-        array::from_fn(|_| self.number(Base::Ten, b' ').unwrap_or(0))
+        let mut numbers = [0; N];
+        for number in numbers.iter_mut() {
+            *number = self.number(Base::Ten, b' ').unwrap_or(0);
+        }
+        numbers
     }
 }

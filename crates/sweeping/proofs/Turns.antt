@@ -89,7 +89,7 @@ module _ {t : Tables} {w₀ : List ℕ} {i a : ℕ} {m : Counts} {w : List ℕ} 
   abbrev v : ℕ
   v = word w (word w (prev_at k))
 
-  before_word : word w (prev_at k) ≡ left_at t.pairs i j
+  pub before_word : word w (prev_at k) ≡ left_at t.pairs i j
   before_word = u.along.only.others (prev_at k) (inl (omega (arith, u.along.few))) ∙ prev_own t u.given.sane u.given.chained i k u.along.from u.more
 
   unwritten : v ≡ left_word t w₀ i j
@@ -154,10 +154,10 @@ module _ {t : Tables} {w₀ : List ℕ} {i a : ℕ} {m : Counts} {w : List ℕ} 
   some_stay nz = one_set (choices t j) stays (λ b. is_open t (take i w₀) j b && may_stand t (length (take i w₀)) a j b) few stays_fits open_bits (λ z. nz (ap ones z ∙ zero_ones))
 
   -- ---- the word written
-  in_words : 4096 + k < length w
+  pub in_words : 4096 + k < length w
   in_words = omega (arith, is, u.given.sane.few_pairs, u.along.only.long, u.given.room)
 
-  still_only : (s : ℕ) → ChangedOnly (live_at (first_pair t.pairs i)) blames w₀ (set w (4096 + k) s)
+  pub still_only : (s : ℕ) → ChangedOnly (live_at (first_pair t.pairs i)) blames w₀ (set w (4096 + k) s)
   still_only s = only_trans u.along.only (only_set w (4096 + k) s (omega (arith, u.along.from)) (omega (arith, is, u.given.sane.few_pairs)))
 
   -- ---- the checks are within their allowance

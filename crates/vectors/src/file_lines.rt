@@ -28,7 +28,7 @@ pub fn write(
 
 // What is said of the tables, and how much is written to each part.
 pub fn read(mut fields: Fields, alloc: Global, out: &mut impl Write) -> io::Result<()> {
-    let file = lists::bytes(&mut fields, alloc)?;
+    let file = lists::bytes(&mut fields, Vec::new(alloc))?;
     let Some(mut lent) = Tables::lent(fields, alloc)? else {
         return Ok(());
     };
@@ -43,8 +43,8 @@ pub fn read(mut fields: Fields, alloc: Global, out: &mut impl Write) -> io::Resu
 
 // The one number that the desk is given.
 pub fn ask(mut fields: Fields, alloc: Global, out: &mut impl Write) -> io::Result<()> {
-    let file = lists::bytes(&mut fields, alloc)?;
-    let plan = lists::bytes(&mut fields, alloc)?;
+    let file = lists::bytes(&mut fields, Vec::new(alloc))?;
+    let plan = lists::bytes(&mut fields, Vec::new(alloc))?;
     let Some(mut lent) = Tables::lent(fields, alloc)? else {
         return Ok(());
     };

@@ -13,7 +13,7 @@ pub fn given(
     alloc: Global,
     out: &mut impl Write,
 ) -> io::Result<()> {
-    let plan = lists::bytes(&mut fields, alloc)?;
+    let plan = lists::bytes(&mut fields, Vec::new(alloc))?;
     let Tables { sizes, pairs, rows } = tables;
     let lawful = Told::of(questions::is_lawful(sizes, pairs, rows, &plan));
     let broken = Told::of(questions::first_broken(sizes, pairs, rows, &plan));

@@ -18,11 +18,22 @@ pub struct Tables {
 }
 
 impl Tables {
-    pub fn read(mut fields: Fields, alloc: Global) -> Result<Self, AllocError> {
+    // None yet.
+    pub fn none(alloc: Global) -> Self {
+        Tables {
+            sizes: Vec::new(alloc),
+            pairs: Vec::new(alloc),
+            rows: Vec::new(alloc),
+        }
+    }
+
+    // In the place of those before, so that one group's tables stand there at a time.
+    pub fn read(self, mut fields: Fields) -> Result<Self, AllocError> {
+        let Tables { sizes, pairs, rows } = self;
         Ok(Tables {
-            sizes: lists::bytes(&mut fields, alloc)?,
-            pairs: lists::bytes(&mut fields, alloc)?,
-            rows: lists::words(&mut fields, alloc)?,
+            sizes: lists::bytes(&mut fields, sizes)?,
+            pairs: lists::bytes(&mut fields, pairs)?,
+            rows: lists::words(&mut fields, rows)?,
         })
     }
 

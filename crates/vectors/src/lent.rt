@@ -20,10 +20,11 @@ impl Dirt for u64 {
     }
 }
 
+// Filled where it stands: an item pushed has to wait for the count of those before it.
 pub fn memory<T: Dirt>(alloc: Global, count: usize) -> Result<Vec<T>, AllocError> {
-    let mut memory = Vec::with_capacity(alloc, count)?;
-    for place in 0..count {
-        memory.push(T::at(place))?;
+    let mut memory = vec![in alloc; T::at(0); count]?;
+    for (place, item) in memory.iter_mut().enumerate() {
+        *item = T::at(place);
     }
     Ok(memory)
 }

@@ -37,7 +37,11 @@ fn answer_all(text: &[u8], alloc: Global, out: &mut impl Write) -> io::Result<()
         match &tables {
             Some(asked) if line.kind != b't' => question::answer(line, asked, alloc, out)?,
             _ => {
-                let read = Tables::read(line.fields, alloc)?;
+                let before = match tables.take() {
+                    Some(before) => before,
+                    None => Tables::none(alloc),
+                };
+                let read = before.read(line.fields)?;
                 read.examine(out)?;
                 tables = Some(read);
             }
