@@ -1,4 +1,6 @@
 // Memory that is lent: what it holds before, and how far it has changed after.
+ghost use Rattle.std.specs.Prelude.{◌≤◌, length};
+
 use std::alloc::{AllocError, Global};
 
 // What lent memory holds at a place before.
@@ -41,4 +43,15 @@ pub fn changed<T: Copy + PartialEq, Before: Fn(usize) -> T>(memory: &[T], before
         Some(last) => &memory[..last + 1],
         None => &[],
     }
+}
+
+// How many are not 0. Added up, and not filtered and counted: so the compiler takes several words at a time.
+pub fn not_zero(words: &[u64]) -> usize
+    ensures { result ≤ length words.now }
+{
+    let mut count = 0;
+    for word in words {
+        count += usize::from(*word != 0);
+    }
+    count
 }

@@ -44,7 +44,7 @@ pub fn run(
 fn measure(plan: &[u8], work: &[u64], out: &mut impl Write) -> io::Result<()> {
     let plan = lent::changed(plan, |_| NO_SLOT);
     let work = lent::changed(work, u64::at);
-    let not_zero = work.iter().filter(|word| **word != 0).count();
+    let not_zero = lent::not_zero(work);
     let bytes = Hex::bytes(plan);
     writeln!(out, " {bytes} {} {} {not_zero}", plan.len(), work.len())
 }
