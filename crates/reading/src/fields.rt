@@ -71,15 +71,14 @@ impl<'a> Fields<'a> {
         value
     }
 
-    // How many bytes the field at hand has, up to a space or the end of its line.
-    pub fn width(&self) -> usize
+    // How many bytes of a list stand next, digits and commas, of so many at most.
+    pub fn width(&self, most: usize) -> usize
         ensures { result ≤ length self.now }
     {
-        let end = self
-            .left
-            .iter()
-            .position(|byte| *byte == b' ' || *byte == b'\n');
-        end.unwrap_or(self.left.len())
+        let next = &self.left[..self.left.len().min(most)];
+        let end = next.iter().position(|byte| *byte != b','
+            && Base::Sixteen.digit(*byte).is_none());
+        end.unwrap_or(next.len())
     }
 
     // So many decimal numbers; each that is missing is 0.

@@ -24,7 +24,7 @@ pub fn words(fields: &mut Fields, memory: Vec<u64>) -> Result<Vec<u64>, AllocErr
     })
 }
 
-// An item has two bytes of the field or more, so all that can come have room at once: a list that grows stands in two places while it moves.
+// An item has two bytes or more, but for a last word, so all that can come have room at once: a list that grows stands in two places while it moves.
 fn at_most<T: Drop, Next: Fn(&mut Fields) -> Option<T>>(
     room: usize,
     fields: &mut Fields,
@@ -37,7 +37,7 @@ fn at_most<T: Drop, Next: Fn(&mut Fields) -> Option<T>>(
     fields.past(b' ');
     let mut read = memory;
     read.clear();
-    read.reserve_exact(room.min(fields.width() / 2 + 1))?;
+    read.reserve_exact(room.min(fields.width(room.saturating_mul(2)) / 2 + 1))?;
     for _place in 0..room {
         let Some(item) = next(fields) else {
             break;
